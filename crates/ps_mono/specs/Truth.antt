@@ -1,0 +1,14 @@
+-- Words on truth values that polynomials share.
+use Rattle.std.specs.Prelude.{ℕ, Bool, true, false}
+
+-- the two differ: addition modulo 2
+unfoldable pub differ : Bool → Bool → Bool
+differ true true = false
+differ true false = true
+differ false true = true
+differ false false = false
+
+-- n where b is true, else 0
+unfoldable pub times : Bool → ℕ → ℕ
+times true n = n
+times false n = 0

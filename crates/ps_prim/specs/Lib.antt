@@ -1,0 +1,2 @@
+pub mod Amplitudes
+pub mod Maps

@@ -1,0 +1,6 @@
+//! Primitive gates, and the definitions of what lists of them do.
+#![tactic(auto)]
+
+pub mod prims;
+
+pub use prims::Prim;
