@@ -1,0 +1,30 @@
+-- What the program can answer: the exit status and the line of each answer.
+use Rattle.std.specs.Prelude.{ℕ, List, [], ◌∷◌, ◌++◌, codes, decimal, map}
+use Rattle.pathsum.specs.declared.answer.Answer.{Answer}
+use Rattle.pathsum.specs.declared.answer.Answer.TheVariants.{Yes, No, Passed, Words, NotYet, Read, TooLong, Memory}
+use Rattle.pathsum.specs.Inputs.{bit_code, input_of}
+
+abbrev pub status_of : Answer → ℕ
+status_of Yes = 0
+status_of (No input) = 1
+status_of (Passed count) = 2
+status_of Words = 64
+status_of NotYet = 65
+status_of Read = 66
+status_of TooLong = 68
+status_of Memory = 70
+
+-- the line, without its line feed
+abbrev pub words_of : Answer → List ℕ
+words_of Yes = codes "yes"
+words_of (No input) = codes "no " ++ map bit_code (input_of input.qubits input.at)
+words_of (Passed count) = codes "unknown passed terms " ++ decimal count
+words_of Words = codes "words"
+words_of NotYet = codes "input NotYet 1:1"
+words_of Read = codes "read"
+words_of TooLong = codes "too long"
+words_of Memory = codes "memory"
+
+-- what is printed
+abbrev pub line_of : Answer → List ℕ
+line_of answer = words_of answer ++ 10 ∷ []
