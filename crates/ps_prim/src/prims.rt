@@ -12,5 +12,8 @@ pub enum Prim {
         q: u32,
     },
     /// The controlled not: qubit `t` is exchanged where qubit `c` is 1.
-    Cx { c: u32, t: u32 },
+    Cx {
+        c: u32,
+        t: u32,
+    },
 }

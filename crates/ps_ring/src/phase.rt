@@ -57,8 +57,7 @@ impl Phase {
     }
 
     /// The greatest `v`, at most 32, such that 2^v divides the units; 32 for no turn at all.
-    pub fn power(self) -> u32
-    {
+    pub fn power(self) -> u32 {
         self.units.trailing_zeros()
     }
 }

@@ -1,0 +1,4 @@
+pub mod Appended
+pub mod Bits
+pub mod Columns
+pub mod Plains

@@ -1,0 +1,4 @@
+pub mod Products
+pub mod Turned
+pub mod Roots
+pub mod Ones
