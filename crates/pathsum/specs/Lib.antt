@@ -1,2 +1,6 @@
 pub mod Answers
+pub mod Composed
+pub mod Ended
 pub mod Inputs
+pub mod Plain
+pub mod Verdicts

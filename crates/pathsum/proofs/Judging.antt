@@ -1,0 +1,63 @@
+-- From the answer to two lists of prims to the answer of a call.
+use Rattle.std.proofs.Common.{◌≡◌, ℕ, refl, ap, sym, ◌∙◌, ◌<◌, ◌≤◌, Option, Some, None, List, [], ◌∷◌, ◌++◌, length, subst, ◌⊎◌, inl, inr, append-nil}
+use Rattle.std.specs.Io.KnownBytes.{prepend_known, IsAtEnd}
+use Rattle.std.specs.Prelude.{IfSome}
+use Rattle.ps_prim.specs.declared.prims.Prim.{Prim}
+use Rattle.pathsum.specs.declared.answer.Answer.{Answer}
+use Rattle.pathsum.specs.declared.answer.Answer.TheVariants.{Yes, No, Passed, Words, NotYet, Read, TooLong, Memory}
+use Rattle.pathsum.specs.Answers.{status_of, line_of}
+use Rattle.pathsum.specs.Verdicts.{Decides}
+use Rattle.pathsum.specs.Ended.{ReadsPair, Judges, Deserves, Answers, IsSame, Ends, Writes}
+
+pub judges_pair : (bytes : List ℕ) (n : ℕ) (A B : List Prim) (answer : Answer) → ReadsPair bytes n A B → Decides n A B answer → Judges bytes answer
+judges_pair bytes n A B Yes r d = (n, A, B, r, d)
+judges_pair bytes n A B (No input) r d = (n, A, B, r, d)
+judges_pair bytes n A B (Passed count) r d = (n, A, B, r, d)
+judges_pair bytes n A B Words r d = (n, A, B, r, d)
+judges_pair bytes n A B NotYet r d = absurd d
+judges_pair bytes n A B Read r d = (n, A, B, r, d)
+judges_pair bytes n A B TooLong r d = (n, A, B, r, d)
+judges_pair bytes n A B Memory r d = tt
+
+-- what holds of the bytes that were read holds of all that the source told
+told_bytes : (P : List ℕ → Type 0) (told after : Option (List ℕ)) (items : List ℕ) → told ≡ prepend_known items after → IsAtEnd after → P items → IfSome told P
+told_bytes P told after items e a p = subst (λ (o : Option (List ℕ)). IfSome o P) (sym e) (by after a)
+  where
+    by : (o : Option (List ℕ)) → IsAtEnd o → IfSome (prepend_known items o) P
+    by None a = tt
+    by (Some xs) a = subst P (sym (ap (λ (r : List ℕ). items ++ r) a ∙ append-nil items)) p
+
+-- the answer to the bytes is that of the call
+pub deserves_judged : (told after : Option (List ℕ)) (items : List ℕ) (old new : ℕ) (answer : Answer) → told ≡ prepend_known items after → IsAtEnd after → length items ≤ 16777216 → Judges items answer → Deserves told old new answer
+deserves_judged told after items old new Yes e a l j = told_bytes (λ bytes. (length bytes ≤ 16777216) × Judges bytes Yes) told after items e a (l, j)
+deserves_judged told after items old new (No input) e a l j = told_bytes (λ bytes. (length bytes ≤ 16777216) × Judges bytes (No input)) told after items e a (l, j)
+deserves_judged told after items old new (Passed count) e a l j = told_bytes (λ bytes. (length bytes ≤ 16777216) × Judges bytes (Passed count)) told after items e a (l, j)
+deserves_judged told after items old new NotYet e a l j = told_bytes (λ bytes. (length bytes ≤ 16777216) × Judges bytes NotYet) told after items e a (l, j)
+deserves_judged told after items old new Words e a l (n, A, B, r, d) = absurd d
+deserves_judged told after items old new Read e a l (n, A, B, r, d) = absurd d
+deserves_judged told after items old new TooLong e a l (n, A, B, r, d) = absurd d
+deserves_judged told after items old new Memory e a l j = tt
+
+-- what `print` did ends the call
+pub printed : (claims : Answer → Type 0) (old new : Option (List ℕ)) (f f' : ℕ) (status : ℕ) (answer : Answer) → claims answer → claims Memory
+    → (Writes old new f f' (line_of answer) (status_of answer) status) ⊎ (Writes old new f f' (line_of Memory) 70 status) → Ends claims old new f f' status
+printed claims old new f f' status answer c m (inl w) = record { answer = answer; claimed = c; written = w }
+printed claims old new f f' status answer c m (inr w) = record { answer = Memory; claimed = m; written = w }
+
+-- the call with the word `same`
+pub same_ends : (words : List (List ℕ)) (told old new : Option (List ℕ)) (s s' f f' : ℕ) (status : ℕ) → IsSame words → Ends (Deserves told s s') old new f f' status → Ends (Answers words told s s') old new f f' status
+same_ends words told old new s s' f f' status w e = record { answer = e.answer; claimed = answers e.answer e.claimed; written = e.written }
+  where
+    answers : (answer : Answer) → Deserves told s s' answer → Answers words told s s' answer
+    answers Yes d = (w, d)
+    answers (No input) d = (w, d)
+    answers (Passed count) d = (w, d)
+    answers NotYet d = (w, d)
+    answers Words d = absurd d
+    answers Read d = (w, d)
+    answers TooLong d = (w, d)
+    answers Memory d = (w, d)
+
+-- the lists behind two slices
+pub decides_lists : (n : ℕ) (A A' B B' : List Prim) (answer : Answer) → A ≡ A' → B ≡ B' → Decides n A B answer → Decides n A' B' answer
+decides_lists n A A' B B' answer a b d = subst (λ (C : List Prim). Decides n A' C answer) b (subst (λ (C : List Prim). Decides n C B answer) a d)

@@ -1,0 +1,36 @@
+-- What the answer to a pair of plain lists of prims claims.
+use Rattle.std.specs.Prelude.{ℕ, ◌≡◌, ◌+◌, ◌-◌, ◌%◌, ◌<◌, ◌≤◌, ◌⊎◌, Bool, List, [], ◌∷◌, ◌++◌, length}
+use Rattle.ps_mono.specs.Truth.{differ}
+use Rattle.ps_phase.specs.declared.terms.Term.{Term}
+use Rattle.ps_prim.specs.declared.prims.Prim.{Prim}
+use Rattle.ps_prim.specs.Amplitudes.{Truths, bit}
+use Rattle.ps_prim.specs.Maps.{SameMap, DiffersAt}
+use Rattle.pathsum.specs.declared.answer.Answer.{Answer}
+use Rattle.pathsum.specs.declared.answer.Answer.TheVariants.{Yes, No, Passed, Words, NotYet, Read, TooLong, Memory}
+use Rattle.pathsum.specs.Composed.{outputs_of, turn_of, IsPolyOf, IsPhaseOf}
+use Rattle.pathsum.specs.Inputs.{input_of}
+
+-- d is the sum of output q of both lists
+abbrev pub OutputDifference : ℕ → List Prim → List Prim → ℕ → List (List ℕ) → Type 0
+OutputDifference n A B q d = IsPolyOf n (λ x. differ (bit (outputs_of A x) q) (bit (outputs_of B x) q)) d
+
+-- p is the phase of B less that of A
+abbrev pub PhaseDifference : ℕ → List Prim → List Prim → List Term → Type 0
+PhaseDifference n A B p = IsPhaseOf n (λ x. turn_of B x + (4294967296 - turn_of A x % 4294967296)) p
+
+-- x is 1 in just the variables of the least monomial of the first differing output's difference, or, where no output
+-- differs, of the phases' difference
+pub data IsFirstDifference (n : ℕ) (A B : List Prim) (x : Truths) : Type 0 where
+  output : (q : ℕ) (m : List ℕ) (d : List (List ℕ)) → q < n → ((r : ℕ) → r < q → OutputDifference n A B r []) → OutputDifference n A B q (m ∷ d) → x ≡ input_of n m → IsFirstDifference n A B x
+  phase : (t : Term) (d : List Term) → ((r : ℕ) → r < n → OutputDifference n A B r []) → PhaseDifference n A B (t ∷ d) → x ≡ input_of n t.mono → IsFirstDifference n A B x
+
+-- what an answer claims of the lists A and B on n qubits
+abbrev pub Decides : ℕ → List Prim → List Prim → Answer → Type 0
+Decides n A B Yes = SameMap n A B
+Decides n A B (No input) = (input.qubits ≡ n) × IsFirstDifference n A B (input_of n input.at) × DiffersAt n A B (input_of n input.at)
+Decides n A B (Passed count) = ⊥
+Decides n A B Words = ⊥
+Decides n A B NotYet = ⊥
+Decides n A B Read = ⊥
+Decides n A B TooLong = ⊥
+Decides n A B Memory = ⊥

@@ -1,0 +1,22 @@
+ghost use Rattle.std.specs.Prelude.{◌≡◌, ℕ, List, IfOk, MatchOption};
+ghost use Rattle.pathsum.specs.Ended.{ReadsPair};
+ghost use Rattle.pathsum.specs.Plain.{SpellsPair, AllPlain};
+ghost use Rattle.ps_prim.specs.Maps.{AllWithin};
+ghost use Rattle.std.specs.Prelude.{◌≤◌};
+ghost use Rattle.ps_prim.specs.declared.prims.Prim.{Prim};
+use ps_prim::Prim;
+use std::alloc::{AllocError, Global};
+
+#[derive(Drop)]
+pub struct PlainPair {
+    pub qubits: u32,
+    pub first: Vec<Prim>,
+    pub second: Vec<Prim>,
+}
+
+pub fn read_pair(_alloc: Global, _bytes: &[u8]) -> Result<Option<PlainPair>, AllocError>
+    ensures read { IfOk result (λ r. MatchOption r ((n : ℕ) (A B : List Prim) → ¬ (SpellsPair _bytes.now n A B)) (λ p. ReadsPair _bytes.now p.qubits p.first.items p.second.items)) }
+    ensures fits { IfOk result (λ r. MatchOption r (Unit {0}) (λ p. (1 ≤ p.qubits) × (p.qubits ≤ 64) × AllWithin p.qubits p.first.items × AllWithin p.qubits p.second.items × AllPlain p.first.items × AllPlain p.second.items)) }
+{
+    Err(AllocError)
+}
