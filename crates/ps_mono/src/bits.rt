@@ -4,7 +4,7 @@ ghost use Rattle.ps_mono.specs.Sets.{stands, IsVarSet};
 use std::marker::Model;
 
 /// A truth value for each variable below 512. Clauses see the ascending list of those that are true.
-#[derive(Clone, Copy)]
+#[derive(Clone, Copy, Debug)]
 pub struct Bits {
     pub(crate) words: [u64; 8],
 }

@@ -1,7 +1,9 @@
 ghost use Rattle.std.specs.Prelude.{◌≡◌, ℕ, ◌<◌, [], ◌∷◌, ◌&&◌, ◌||◌, not, nat_eq, length, get_or, Ok, IsOkAnd};
 ghost use Rattle.std.specs.Cmp.{partial_equiv_from_equiv};
 ghost use Rattle.std.specs.Cmp.Lexicographic.{pointwise, slice_cmp};
-ghost use Rattle.std.specs.Ordering.{nat_cmp};
+ghost use Rattle.std.specs.Ordering.{nat_cmp, as_partial_cmp};
+ghost use Rattle.std.proofs.Common.{refl};
+ghost use Rattle.ps_mono.specs.Orders.{mono_total, mono_ties, mono_partial_order};
 ghost use Rattle.std.proofs.lemmas.Cmp.{nat_list_eq_equiv};
 ghost use Rattle.ps_mono.specs.Sets.{stands, IsVarSet, mono_cmp, holds};
 
@@ -13,7 +15,7 @@ use std::marker::Model;
 
 /// A monomial: a set of variables below 512, whose product it is. Clauses see the ascending list of
 /// its variables.
-#[derive(Clone, Copy)]
+#[derive(Clone, Copy, Debug)]
 pub struct Mono {
     words: [u64; 8],
 }
@@ -47,6 +49,30 @@ impl PartialEq for Mono {
 
 impl Eq for Mono {
     ghost laws = { nat_list_eq_equiv };
+}
+
+impl Ord for Mono {
+    ghost cmp = { mono_cmp };
+
+    ghost total = { mono_total };
+
+    ghost matches_partial_cmp = { λ _ _. refl };
+
+    ghost matches_eq = { mono_ties };
+
+    fn cmp(&self, other: &Mono) -> Ordering {
+        self.compare(other)
+    }
+}
+
+impl PartialOrd for Mono {
+    ghost partial_cmp = { as_partial_cmp mono_cmp };
+
+    ghost laws = { mono_partial_order };
+
+    fn partial_cmp(&self, other: &Mono) -> Option<Ordering> {
+        Some(self.compare(other))
+    }
 }
 
 impl Mono {
