@@ -9,3 +9,6 @@ mod merge;
 pub mod poly;
 
 pub use poly::BoolPoly;
+
+#[cfg(test)]
+mod tests;
