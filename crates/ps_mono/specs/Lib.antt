@@ -2,3 +2,4 @@ pub mod Sets
 pub mod Lists
 pub mod Words
 pub mod Truth
+pub mod Orders

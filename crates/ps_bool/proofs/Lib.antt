@@ -1,0 +1,5 @@
+pub mod Bools
+pub mod Merges
+pub mod Unique
+pub mod Variables
+pub mod Values

@@ -1,0 +1,161 @@
+ghost use Rattle.std.specs.Prelude.{◌≡◌, ℕ, ◌<◌, ◌↔◌, Bool, true, ◌||◌, [], ◌∷◌, length, slice_get, Some, Ok, IsTrue, IfOk, IsNone, IfSome};
+ghost use Rattle.ps_mono.specs.Sets.{stands, IsVarSet};
+ghost use Rattle.ps_mono.specs.Truth.{differ};
+ghost use Rattle.ps_bool.specs.Polys.{bool_value, occurs, IsPoly};
+
+use super::merge::merged;
+use ps_mono::{Bits, Mono};
+use std::alloc::{AllocError, Global};
+use std::marker::Model;
+
+/// A Boolean polynomial: a sum modulo 2 of distinct monomials, in the order of `Mono::compare`.
+///
+/// Each polynomial has one form only: two that are equal at each assignment have the same monomials.
+#[derive(Drop)]
+pub struct BoolPoly {
+    monos: Vec<Mono>,
+}
+
+impl Model for BoolPoly {
+    ghost use Rattle.std.specs.Prelude.{List, ℕ};
+    ghost use Rattle.ps_bool.specs.Polys.{IsPoly};
+
+    ghost Value = { List (List ℕ) };
+
+    ghost view = { λ p. p.monos.items };
+
+    ghost invariant = { λ p. IsPoly p.monos.items };
+}
+
+impl BoolPoly {
+    /// The polynomial that is 0 everywhere: no monomials.
+    pub fn zero(alloc: Global) -> BoolPoly
+        ensures { result ≡ [] }
+    {
+        BoolPoly {
+            monos: Vec::new(alloc),
+        }
+    }
+
+    /// The polynomial that is 1 everywhere: the empty monomial.
+    pub fn one(alloc: Global) -> Result<BoolPoly, AllocError>
+        ensures { IfOk result (λ p. p ≡ [] ∷ []) }
+    {
+        BoolPoly::of(alloc, &Mono::one())
+    }
+
+    /// The polynomial of variable `v` alone, which is below 512.
+    pub fn var(alloc: Global, v: u16) -> Result<BoolPoly, AllocError>
+        requires { v < 512 }
+        ensures { IfOk result (λ p. p ≡ (v ∷ []) ∷ []) }
+    {
+        BoolPoly::of(alloc, &Mono::var(v))
+    }
+
+    /// The polynomial of one monomial.
+    pub fn of(alloc: Global, mono: &Mono) -> Result<BoolPoly, AllocError>
+        ensures { IfOk result (λ p. p ≡ mono.now ∷ []) }
+    {
+        mono.known();
+        let mut monos = Vec::new(alloc);
+        monos.push(*mono)?;
+        Ok(BoolPoly { monos })
+    }
+
+    /// The sum modulo 2, by one merge of the two lists.
+    pub fn xor(&self, other: &BoolPoly) -> Result<BoolPoly, AllocError>
+        ensures value { IfOk result (λ p. (a : ℕ → Bool) → bool_value p a ≡ differ (bool_value self.now a) (bool_value other.now a)) }
+        ensures variables { IfOk result (λ p. (v : ℕ) → occurs v p ≡ true → (occurs v self.now || occurs v other.now) ≡ true) }
+        ensures form { IfOk result (λ p. IsPoly p) }
+    {
+        let monos = merged(*self.monos.allocator(), &self.monos, &other.monos)?;
+        Ok(BoolPoly { monos })
+    }
+
+    /// The same polynomial, in memory of its own.
+    pub fn copy(&self) -> Result<BoolPoly, AllocError>
+        ensures same { IfOk result (λ p. p ≡ self.now) }
+        ensures form { IfOk result (λ p. IsPoly p) }
+    {
+        Ok(BoolPoly {
+            monos: self.monos.clone()?,
+        })
+    }
+
+    /// How many monomials the polynomial has.
+    pub fn count(&self) -> u64
+        ensures { result ≡ length self.now }
+    {
+        self.monos.len() as u64
+    }
+
+    /// The monomial at a place in order, counted from 0. The place is below the count.
+    pub fn mono(&self, place: u64) -> &Mono
+        requires { place < length self.now }
+        ensures value { slice_get self.now place ≡ Some result.now }
+        ensures form { IsVarSet result.now }
+    {
+        let mono = &self.monos[place as usize];
+        mono.known();
+        mono
+    }
+
+    /// The monomials in order.
+    pub fn monos(&self) -> &[Mono]
+        ensures items { result.now ≡ self.now }
+        ensures form { IsPoly self.now }
+    {
+        &self.monos
+    }
+
+    /// The least monomial, or `None` for zero. Where its variables are true and no others, the
+    /// polynomial is 1.
+    pub fn least(&self) -> Option<&Mono>
+        ensures none { IsNone result ↔ (self.now ≡ []) }
+        ensures first { IfSome result (λ m. slice_get self.now 0 ≡ Some m.now) }
+        ensures point { IfSome result (λ m. bool_value self.now (λ v. stands v m.now) ≡ true) }
+        ensures form { IfSome result (λ m. IsVarSet m.now) }
+    {
+        if self.monos.is_empty() {
+            return None;
+        }
+        let mono = &self.monos[0];
+        mono.known();
+        Some(mono)
+    }
+
+    /// Whether variable `v`, which is below 512, stands in a monomial.
+    pub fn contains(&self, v: u16) -> bool
+        requires { v < 512 }
+        ensures { result ≡ occurs v self.now }
+    {
+        for mono in &self.monos {
+            if mono.contains(v) {
+                return true;
+            }
+        }
+        false
+    }
+
+    /// The value at an assignment.
+    pub fn eval(&self, at: &Bits) -> bool
+        ensures { result ≡ bool_value self.now (λ v. stands v at.now) }
+    {
+        let mut odd = false;
+        for mono in &self.monos {
+            if mono.holds(at) {
+                odd = !odd;
+            }
+        }
+        odd
+    }
+
+    /// Whether both polynomials have the same monomials, which is so exactly where they have the same
+    /// value at each assignment.
+    pub fn same(&self, other: &BoolPoly) -> bool
+        ensures list { IsTrue result ↔ (self.now ≡ other.now) }
+        ensures values { IsTrue result ↔ ((a : ℕ → Bool) → bool_value self.now a ≡ bool_value other.now a) }
+    {
+        self.monos == other.monos
+    }
+}

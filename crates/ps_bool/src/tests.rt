@@ -1,0 +1,27 @@
+use super::*;
+use ps_mono::{Bits, Mono};
+use std::test::Fail;
+
+// (x0 + x1) + (x1 + 1) is 1 + x0.
+#[test]
+fn sums(rt: HostRuntime) -> Result<(), Fail> {
+    let alloc = rt.alloc();
+    let one = BoolPoly::one(alloc)?;
+    let first = BoolPoly::var(alloc, 0)?;
+    let second = BoolPoly::var(alloc, 1)?;
+    let sum = first.xor(&second)?.xor(&second.xor(&one)?)?;
+    assert!(rt; sum.same(&one.xor(&first)?));
+    assert_eq!(rt; sum.count(), 2);
+    assert_eq!(rt; *sum.mono(0), Mono::one());
+    assert_eq!(rt; *sum.mono(1), Mono::var(0));
+    assert_eq!(rt; sum.monos().len(), 2);
+    assert!(rt; sum.contains(0));
+    assert!(rt; !sum.contains(1));
+    assert!(rt; sum.least() == Some(&Mono::one()));
+    let mut at = Bits::zero();
+    assert!(rt; sum.eval(&at));
+    at.set(0, true);
+    assert!(rt; !sum.copy()?.eval(&at));
+    assert!(rt; sum.xor(&sum)?.same(&BoolPoly::zero(alloc)));
+    Ok(())
+}

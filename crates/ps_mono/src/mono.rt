@@ -1,0 +1,231 @@
+ghost use Rattle.std.specs.Prelude.{◌≡◌, ℕ, ◌<◌, [], ◌∷◌, ◌&&◌, ◌||◌, not, nat_eq, length, get_or, Ok, IsOkAnd};
+ghost use Rattle.std.specs.Cmp.{partial_equiv_from_equiv};
+ghost use Rattle.std.specs.Cmp.Lexicographic.{pointwise, slice_cmp};
+ghost use Rattle.std.specs.Ordering.{nat_cmp, as_partial_cmp};
+ghost use Rattle.std.proofs.Common.{refl};
+ghost use Rattle.ps_mono.specs.Orders.{mono_total, mono_ties, mono_partial_order};
+ghost use Rattle.std.proofs.lemmas.Cmp.{nat_list_eq_equiv};
+ghost use Rattle.ps_mono.specs.Sets.{stands, IsVarSet, mono_cmp, holds};
+
+use super::bits::Bits;
+use super::select::nth_one;
+use std::alloc::{AllocError, Global};
+use std::cmp::Ordering;
+use std::marker::Model;
+
+/// A monomial: a set of variables below 512, whose product it is. Clauses see the ascending list of
+/// its variables.
+#[derive(Clone, Copy, Debug)]
+pub struct Mono {
+    words: [u64; 8],
+}
+
+impl Model for Mono {
+    ghost use Rattle.std.specs.Prelude.{List, ℕ};
+    ghost use Rattle.std.proofs.Common.{ap};
+    ghost use Rattle.ps_mono.specs.Sets.{vars, eight_words, Fits8};
+    ghost use Rattle.ps_mono.specs.Words.{words_back};
+
+    ghost Value = { List ℕ };
+
+    ghost view = { λ a. vars a.words };
+
+    ghost invariant = { λ a. Fits8 a.words };
+
+    ghost inverse = { λ m. record { words = eight_words m } };
+
+    ghost inverse_ok = { λ a h. ap (λ ws. record { words = ws }) (words_back a.words h) };
+}
+
+impl PartialEq for Mono {
+    ghost eq = { pointwise nat_eq };
+
+    ghost laws = { partial_equiv_from_equiv nat_list_eq_equiv };
+
+    fn eq(&self, other: &Mono) -> bool {
+        self.words == other.words
+    }
+}
+
+impl Eq for Mono {
+    ghost laws = { nat_list_eq_equiv };
+}
+
+impl Ord for Mono {
+    ghost cmp = { mono_cmp };
+
+    ghost total = { mono_total };
+
+    ghost matches_partial_cmp = { λ _ _. refl };
+
+    ghost matches_eq = { mono_ties };
+
+    fn cmp(&self, other: &Mono) -> Ordering {
+        self.compare(other)
+    }
+}
+
+impl PartialOrd for Mono {
+    ghost partial_cmp = { as_partial_cmp mono_cmp };
+
+    ghost laws = { mono_partial_order };
+
+    fn partial_cmp(&self, other: &Mono) -> Option<Ordering> {
+        Some(self.compare(other))
+    }
+}
+
+impl Mono {
+    /// Nothing but the knowledge that the list of variables ascends and stays below 512.
+    pub fn known(&self)
+        ensures { IsVarSet self.now }
+    {
+        let _ = &self.words;
+    }
+
+    /// The empty product, which is 1 everywhere.
+    pub fn one() -> Mono
+        ensures { result ≡ [] }
+    {
+        Mono { words: [0; 8] }
+    }
+
+    /// The monomial of variable `v` alone, which is below 512.
+    pub fn var(v: u16) -> Mono
+        requires { v < 512 }
+        ensures { result ≡ v ∷ [] }
+    {
+        let mut words = [0; 8];
+        words[(v / 64) as usize] = 1u64 << (v % 64);
+        Mono { words }
+    }
+
+    /// The product: the variables of both.
+    pub fn union(&self, other: &Mono) -> Mono
+        ensures members { (v : ℕ) → stands v result ≡ (stands v self.now || stands v other.now) }
+        ensures form { IsVarSet result }
+    {
+        let mut words = [0; 8];
+        for i in 0..8 {
+            words[i] = self.words[i] | other.words[i];
+        }
+        Mono { words }
+    }
+
+    /// The monomial without variable `v`, which is below 512 and need not stand in it.
+    pub fn removed(&self, v: u16) -> Mono
+        requires { v < 512 }
+        ensures members { (u : ℕ) → stands u result ≡ (stands u self.now && not (nat_eq u v)) }
+        ensures form { IsVarSet result }
+    {
+        let mut words = self.words;
+        let place = (v / 64) as usize;
+        words[place] &= !(1u64 << (v % 64));
+        Mono { words }
+    }
+
+    /// The product, as `union` gives it. It takes no memory and so always answers `Ok`.
+    pub fn product(&self, _alloc: Global, other: &Mono) -> Result<Mono, AllocError>
+        ensures members { IsOkAnd result (λ m. (v : ℕ) → stands v m ≡ (stands v self.now || stands v other.now)) }
+        ensures form { IsOkAnd result (λ m. IsVarSet m) }
+    {
+        Ok(self.union(other))
+    }
+
+    /// The monomial without variable `v`, as `removed` gives it. It takes no memory and so always
+    /// answers `Ok`.
+    pub fn without(&self, _alloc: Global, v: u16) -> Result<Mono, AllocError>
+        requires { v < 512 }
+        ensures members { IsOkAnd result (λ m. (u : ℕ) → stands u m ≡ (stands u self.now && not (nat_eq u v))) }
+        ensures form { IsOkAnd result (λ m. IsVarSet m) }
+    {
+        Ok(self.removed(v))
+    }
+
+    /// The same monomial. It takes no memory and so always answers `Ok`; `*self` is the same.
+    pub fn copy(&self, _alloc: Global) -> Result<Mono, AllocError>
+        ensures { result ≡ Ok self.now }
+    {
+        Ok(*self)
+    }
+
+    /// Whether variable `v`, which is below 512, stands in the monomial.
+    pub fn contains(&self, v: u16) -> bool
+        requires { v < 512 }
+        ensures { result ≡ stands v self.now }
+    {
+        (self.words[(v / 64) as usize] >> (v % 64)) & 1 == 1
+    }
+
+    /// How many variables the monomial has.
+    pub fn degree(&self) -> u32
+        ensures { result ≡ length self.now }
+    {
+        let mut count = 0;
+        for i in 0..8 {
+            count += self.words[i].count_ones();
+        }
+        count
+    }
+
+    /// The variable at a place in ascending order, counted from 0. The place is below the degree.
+    pub fn var_at(&self, place: u32) -> u16
+        requires { place < length self.now }
+        ensures value { result ≡ get_or self.now place 0 }
+        ensures small { result < 512 }
+    {
+        let mut left = place;
+        for i in 0..8u16 {
+            let word = self.words[i as usize];
+            let count = word.count_ones();
+            if left < count {
+                return 64 * i + nth_one(word, left) as u16;
+            }
+            left -= count;
+        }
+        unreachable!()
+    }
+
+    /// The order of monomials: by degree, and at one degree by the ascending lists of variables, the
+    /// first place where they differ deciding.
+    pub fn compare(&self, other: &Mono) -> Ordering
+        ensures { result ≡ mono_cmp self.now other.now }
+    {
+        match self.degree().cmp(&other.degree()) {
+            Ordering::Less => Ordering::Less,
+            Ordering::Greater => Ordering::Greater,
+            Ordering::Equal => self.compare_equal(other),
+        }
+    }
+
+    // At one degree, the set with the lowest variable that is not in both comes first.
+    fn compare_equal(&self, other: &Mono) -> Ordering
+        requires { length self.now ≡ length other.now }
+        ensures { result ≡ slice_cmp nat_cmp self.now other.now }
+    {
+        for i in 0..8 {
+            let differing = self.words[i] ^ other.words[i];
+            if differing != 0 {
+                let place = differing.trailing_zeros();
+                return if (self.words[i] >> place) & 1 == 1 {
+                    Ordering::Less
+                } else {
+                    Ordering::Greater
+                };
+            }
+        }
+        Ordering::Equal
+    }
+
+    /// Whether all variables of the monomial are true.
+    pub fn holds(&self, at: &Bits) -> bool
+        ensures { result ≡ holds self.now (λ v. stands v at.now) }
+    {
+        for i in 0..8 {
+            if self.words[i] & !at.words[i] != 0 {
+                return false;
+            }
+        }
+        true
+    }
+}

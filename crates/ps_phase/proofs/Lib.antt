@@ -1,0 +1,5 @@
+pub mod Adding
+pub mod Scaling
+pub mod Combining
+pub mod Values
+pub mod Unique

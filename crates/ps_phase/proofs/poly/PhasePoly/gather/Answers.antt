@@ -1,0 +1,18 @@
+use Rattle.std.proofs.Common.{rules, ap}
+use Rattle.std.specs.Ordering.{is_lt}
+use Rattle.std.proofs.lemmas.Fn.{always_returns_same}
+use Rattle.std.proofs.lemmas.List.Sorted.{ranks_by}
+use Rattle.ps_mono.specs.Sets.{mono_cmp}
+use Rattle.ps_mono.proofs.Orders.{mono_total}
+use Rattle.ps_phase.proofs.Combining.{falls, gathered_form, gathered_value, gathered_free}
+use Rattle.ps_phase.proofs.poly.PhasePoly.gather.Goals as goal
+
+pub invariant_of-result : goal.invariant_of-result
+invariant_of-result c = gathered_form _ _ _ c.deref.ensures.value c.in_ok-terms.ensures.items c.in_ok-terms.ensures.small
+    (c.sort_unstable_by.ensures.sorted falls (ranks_by mono_total (λ t. t.mono)) (always_returns_same _ _ _ (λ a r q k. search rules)))
+
+pub returns-clause-value : goal.returns-clause-value
+returns-clause-value c = gathered_value _ _ _ _ c.deref.ensures.value c.in_ok-terms.ensures.items c.sort_unstable_by.ensures.permutation
+
+pub returns-clause-free : goal.returns-clause-free
+returns-clause-free c = gathered_free _ _ _ _ c.deref.ensures.value c.in_ok-terms.ensures.items c.sort_unstable_by.ensures.permutation

@@ -1,0 +1,39 @@
+-- Two polynomials added, term by term.
+use Rattle.std.specs.Prelude.{ℕ, ◌+◌, ◌*◌, ◌%◌, Bool, cond, nat_eq, List, [], ◌∷◌}
+use Rattle.std.specs.declared.cmp.Ordering.{Ordering}
+use Rattle.std.specs.declared.cmp.Ordering.TheVariants.{Less, Equal, Greater}
+use Rattle.ps_phase.specs.declared.terms.Term.{Term}
+use Rattle.ps_mono.specs.Sets.{mono_cmp, stands}
+
+unfoldable pub choose : Ordering → List Term → List Term → List Term → List Term
+choose Less a b c = a
+choose Equal a b c = b
+choose Greater a b c = c
+
+-- a term in front, where its phase is not zero
+unfoldable pub put_term : List ℕ → ℕ → List Term → List Term
+put_term m p ts = cond (nat_eq p 0) ts (record { mono = m; phase = p } ∷ ts)
+
+unfoldable pub blend : Term → (List Term → List Term) → List Term → List Term
+blend x rest [] = x ∷ rest []
+blend x rest (y ∷ ys) = choose (mono_cmp x.mono y.mono) (x ∷ rest (y ∷ ys)) (put_term x.mono ((x.phase + y.phase) % 4294967296) (rest ys)) (y ∷ blend x rest ys)
+
+-- both lists in order, terms of one monomial added
+unfoldable pub add_terms : List Term → List Term → List Term
+add_terms [] ys = ys
+add_terms (x ∷ xs) ys = blend x (λ zs. add_terms xs zs) ys
+
+-- each phase so many times, without those that come to zero
+unfoldable pub scaled_terms : ℕ → List Term → List Term
+scaled_terms by [] = []
+scaled_terms by (t ∷ ts) = put_term t.mono ((by * t.phase) % 4294967296) (scaled_terms by ts)
+
+-- the terms that contain v, in order
+unfoldable pub terms_with : ℕ → List Term → List Term
+terms_with v [] = []
+terms_with v (t ∷ ts) = cond (stands v t.mono) (t ∷ terms_with v ts) (terms_with v ts)
+
+-- the sum of each run of one monomial, after a run of m that has come to p
+unfoldable pub combined_terms : List ℕ → ℕ → List Term → List Term
+combined_terms m p [] = put_term m p []
+combined_terms m p (t ∷ ts) = choose (mono_cmp m t.mono) (put_term m p (combined_terms t.mono t.phase ts)) (combined_terms m ((p + t.phase) % 4294967296) ts) (put_term m p (combined_terms t.mono t.phase ts))

@@ -1,0 +1,9 @@
+//! Phase polynomials: how far each assignment of the variables turns the phase, as a sum of terms.
+#![tactic(auto)]
+
+pub mod merging;
+pub mod poly;
+pub mod terms;
+
+pub use poly::PhasePoly;
+pub use terms::Term;

@@ -1,0 +1,175 @@
+ghost use Rattle.std.specs.Prelude.{◌≡◌, ℕ, ◌<◌, ◌%◌, ◌+◌, ◌*◌, ◌↔◌, Bool, false, IfOk, OnErr, IsTrue, [], length, slice_get};
+ghost use Rattle.ps_phase.specs.Phases.{phase_value, phase_occurs, IsPhasePoly, coefficient, SameTurns};
+ghost use Rattle.ps_phase.specs.Adding.{terms_with};
+ghost use Rattle.ps_mono.specs.Sets.{stands};
+
+use super::merging::{added, combined, push_term, scaled, selected};
+use super::terms::Term;
+use ps_mono::{Bits, Mono};
+use ps_ring::Phase;
+use std::alloc::{AllocError, Global};
+use std::marker::Model;
+
+/// A sum of terms: each monomial once, in the order of `Mono::compare`, with a phase that is not zero.
+///
+/// What it adds to the phase at an assignment of the variables is the sum of the phases of the
+/// terms that hold there, modulo a turn. Two polynomials that add the same everywhere have the
+/// same terms. A clause sees the list of the terms.
+#[derive(Drop)]
+pub struct PhasePoly {
+    terms: Vec<Term>,
+}
+
+impl Model for PhasePoly {
+    ghost use Rattle.std.specs.Prelude.{List};
+    ghost use Rattle.ps_phase.specs.declared.terms.Term.{Term};
+    ghost use Rattle.ps_phase.specs.Phases.{IsPhasePoly};
+
+    ghost Value = { List Term };
+
+    ghost view = { λ p. p.terms.items };
+
+    ghost invariant = { λ p. IsPhasePoly p.terms.items };
+}
+
+impl PhasePoly {
+    /// No term: no turn at any assignment.
+    pub fn zero(alloc: Global) -> PhasePoly
+        ensures { result ≡ [] }
+    {
+        PhasePoly {
+            terms: Vec::new(alloc),
+        }
+    }
+
+    /// The same phase at each assignment. `AllocError` is want of memory.
+    pub fn constant(alloc: Global, phase: Phase) -> Result<PhasePoly, AllocError>
+        ensures value { IfOk result (λ p. (a : ℕ → Bool) → phase_value p a ≡ phase) }
+        ensures free { IfOk result (λ p. (v : ℕ) → phase_occurs v p ≡ false) }
+    {
+        let mut terms = Vec::new(alloc);
+        push_term(&mut terms, &Mono::one(), phase)?;
+        Ok(PhasePoly { terms })
+    }
+
+    /// The sum of terms in any order, of which several may have one monomial: they are sorted once,
+    /// and those of one monomial added. `AllocError` is want of memory.
+    pub fn gather(mut terms: Vec<Term>) -> Result<PhasePoly, AllocError>
+        ensures value { IfOk result (λ p. SameTurns p terms.items) }
+        ensures free { IfOk result (λ p. (v : ℕ) → phase_occurs v terms.items ≡ false → phase_occurs v p ≡ false) }
+    {
+        terms.sort_unstable_by(|x, y| x.mono.compare(&y.mono));
+        let terms = combined(*terms.allocator(), &terms)?;
+        Ok(PhasePoly { terms })
+    }
+
+    /// Both together. `AllocError` is want of memory.
+    pub fn add(&self, other: &PhasePoly) -> Result<PhasePoly, AllocError>
+        ensures value { IfOk result (λ p. (a : ℕ → Bool) → phase_value p a % 4294967296 ≡ (phase_value self.now a + phase_value other.now a) % 4294967296) }
+        ensures free { IfOk result (λ p. (v : ℕ) → phase_occurs v self.now ≡ false → phase_occurs v other.now ≡ false → phase_occurs v p ≡ false) }
+    {
+        let terms = added(*self.terms.allocator(), &self.terms, &other.terms)?;
+        Ok(PhasePoly { terms })
+    }
+
+    /// What gives whole turns with this one. `AllocError` is want of memory.
+    pub fn neg(&self) -> Result<PhasePoly, AllocError>
+        ensures value { IfOk result (λ p. (a : ℕ → Bool) → (phase_value p a + phase_value self.now a) % 4294967296 ≡ 0) }
+        ensures free { IfOk result (λ p. (v : ℕ) → phase_occurs v self.now ≡ false → phase_occurs v p ≡ false) }
+    {
+        self.scale(u32::MAX)
+    }
+
+    /// So many times the phases. `AllocError` is want of memory.
+    pub fn scale(&self, by: u32) -> Result<PhasePoly, AllocError>
+        ensures value { IfOk result (λ p. (a : ℕ → Bool) → phase_value p a % 4294967296 ≡ (by * phase_value self.now a) % 4294967296) }
+        ensures free { IfOk result (λ p. (v : ℕ) → phase_occurs v self.now ≡ false → phase_occurs v p ≡ false) }
+    {
+        let terms = scaled(*self.terms.allocator(), &self.terms, by)?;
+        Ok(PhasePoly { terms })
+    }
+
+    /// The same terms. `AllocError` is want of memory.
+    pub fn copy(&self) -> Result<PhasePoly, AllocError>
+        ensures { IfOk result (λ p. p ≡ self.now) }
+    {
+        let terms = Vec::from_slice(*self.terms.allocator(), &self.terms)?;
+        Ok(PhasePoly { terms })
+    }
+
+    /// The terms that contain `v`, in order. `AllocError` is want of memory.
+    pub fn terms_with(&self, v: u16) -> Result<PhasePoly, AllocError>
+        requires { v < 512 }
+        ensures { IfOk result (λ p. p ≡ terms_with v self.now) }
+    {
+        let terms = selected(*self.terms.allocator(), &self.terms, v)?;
+        Ok(PhasePoly { terms })
+    }
+
+    /// How many terms.
+    pub fn count(&self) -> u64
+        ensures { result ≡ length self.now }
+    {
+        self.terms.len() as u64
+    }
+
+    /// The terms in order, and that they are.
+    pub fn terms(&self) -> &[Term]
+        ensures value { result.now ≡ self.now }
+        ensures form { IsPhasePoly self.now }
+    {
+        &self.terms
+    }
+
+    /// The term at a place, from 0 on.
+    pub fn term(&self, place: u64) -> (&Mono, Phase)
+        requires { place < length self.now }
+        ensures { slice_get self.now place ≡ Some (record { mono = result.0.now; phase = result.1 }) }
+    {
+        let term = &self.terms[place as usize];
+        (&term.mono, term.phase)
+    }
+
+    /// Whether `v` stands in a term.
+    pub fn contains(&self, v: u16) -> bool
+        requires { v < 512 }
+        ensures { result ≡ phase_occurs v self.now }
+    {
+        for term in &self.terms {
+            if term.mono.contains(v) {
+                return true;
+            }
+        }
+        false
+    }
+
+    /// What the polynomial adds to the phase at an assignment.
+    pub fn eval(&self, at: &Bits) -> Phase
+        ensures { result ≡ phase_value self.now (λ v. stands v at.now) % 4294967296 }
+    {
+        let mut sum = Phase::of(0);
+        for term in &self.terms {
+            if term.mono.holds(at) {
+                sum = sum.add(term.phase);
+            }
+        }
+        sum
+    }
+
+    /// Whether both add the same at each assignment, up to whole turns.
+    pub fn same(&self, other: &PhasePoly) -> bool
+        ensures { IsTrue result ↔ SameTurns self.now other.now }
+    {
+        self.terms == other.terms
+    }
+
+    /// The phase of the term of a monomial, and zero where there is none.
+    pub fn coefficient(&self, mono: &Mono) -> Phase
+        ensures { result ≡ coefficient mono.now self.now }
+    {
+        match self.terms.binary_search_by(|term| term.mono.compare(mono)) {
+            Ok(place) => self.terms[place].phase,
+            Err(_) => Phase::of(0),
+        }
+    }
+}
