@@ -4,10 +4,10 @@ use Rattle.std.proofs.Math.IntN.{ℤ, pos, ◌+ℤ◌, ◌-ℤ◌, ◌*ℤ◌, n
 use Rattle.std.proofs.lemmas.Int.{ints}
 use Rattle.std.proofs.lemmas.List.{set-get_or}
 use Rattle.ps_ring.specs.Numbers.{Number, IsNumber, one, when}
-use Rattle.ps_ring.proofs.Products.{mul_assoc_z}
+use Rattle.ps_ring.proofs.Products.{mul_assoc_z, mul_cancel}
 use Rattle.ps_ring.proofs.Turned.{one_number, turned_same}
 use Rattle.ps_ring.proofs.Roots.{twice_power}
-use Rattle.ps_ring.proofs.Ones.{one_first, phases_meet, mul_cancel}
+use Rattle.ps_ring.proofs.Ones.{one_first, phases_meet}
 use Rattle.ps_prim.specs.declared.prims.Prim.{Prim}
 use Rattle.ps_prim.specs.declared.prims.Prim.TheVariants.{U, Cx}
 use Rattle.ps_prim.specs.Amplitudes.{Truths, Column, bit, same_bits, first_phase, second_phase, entry, exchanged, act, run, start, amplitude, turns}

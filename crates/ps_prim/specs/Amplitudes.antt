@@ -2,29 +2,14 @@
 use Rattle.std.specs.Prelude.{ℕ, ◌+◌, ◌*◌, Bool, true, false, not, List, [], ◌∷◌, get_or, set}
 use Rattle.std.proofs.Math.IntN.{ℤ, pos, ◌+ℤ◌, ◌-ℤ◌, neg_ℤ}
 use Rattle.ps_ring.specs.Numbers.{Number, one, when}
+pub use Rattle.ps_ring.specs.Truths.{Truths, bit}
+unfoldable pub use Rattle.ps_ring.specs.Truths.{same_bits}
 use Rattle.ps_prim.specs.declared.prims.Prim.{Prim}
 use Rattle.ps_prim.specs.declared.prims.Prim.TheVariants.{U, Cx}
-
--- a truth value for each of some variables, variable 0 first
-abbrev pub Truths : Type 0
-Truths = List Bool
 
 -- an amplitude for each list of output bits
 abbrev pub Column : Type 0
 Column = Truths → Number
-
--- bit q of z, and false past its end
-abbrev pub bit : Truths → ℕ → Bool
-bit z q = get_or z q false
-
-unfoldable pub same_bits : Truths → Truths → Bool
-same_bits [] [] = true
-same_bits [] (y ∷ ys) = false
-same_bits (x ∷ xs) [] = false
-same_bits (true ∷ xs) (true ∷ ys) = same_bits xs ys
-same_bits (true ∷ xs) (false ∷ ys) = false
-same_bits (false ∷ xs) (true ∷ ys) = false
-same_bits (false ∷ xs) (false ∷ ys) = same_bits xs ys
 
 -- the two phases whose sum is the doubled entry of U at a row and a column,
 -- with t the units of theta, and f and l twice the units of phi and lambda

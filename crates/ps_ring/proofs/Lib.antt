@@ -1,4 +1,9 @@
 pub mod Products
 pub mod Turned
-pub mod Roots
 pub mod Ones
+pub mod Roots
+pub mod TwoTerms
+pub mod Windows
+pub mod Inners
+pub mod Squares
+pub mod Divisors

@@ -1,9 +1,6 @@
 -- Where the number 1 is 1.
-use Rattle.std.proofs.Common.{◌≡◌, ℕ, ◌+◌, ◌-◌, ◌%◌, refl, ap, sym, ◌∙◌, arith, ◌<◌}
-use Rattle.std.proofs.Math.IntN.{ℤ, pos, ◌-ℤ◌, ◌*ℤ◌, nat_abs}
-use Rattle.std.proofs.lemmas.Int.{ints}
-use Rattle.std.proofs.Math.Nat.{eq_of_mul-eq-mul_left}
-use borrow.Author.Differences.{up, down, same_in}
+use Rattle.std.proofs.Common.{◌≡◌, ℕ, ◌+◌, ◌-◌, ◌%◌, refl, ap, sym, ◌∙◌, arith}
+use Rattle.std.proofs.Math.IntN.{pos, ◌-ℤ◌, nat_abs}
 use Rattle.std.proofs.lemmas.Bool.Decides.{nat_tests}
 use Rattle.ps_ring.specs.Numbers.{one, unit_at}
 
@@ -25,6 +22,3 @@ whole_apart p q e = omega arith
 pub phases_meet : (p q : ℕ) → one (pos p -ℤ pos q) ≡ pos 1 → p % 4294967296 ≡ q % 4294967296
 unfolding one
 phases_meet p q e = whole_apart p q (ap (λ n. n % 4294967296) (sym (distance p q)) ∙ at_one _ e)
-
-pub mul_cancel : (p : ℕ) (a b : ℤ) → 0 < p → pos p *ℤ a ≡ pos p *ℤ b → a ≡ b
-mul_cancel p a b h e = same_in a b (eq_of_mul-eq-mul_left p h (up a + down b) (up b + down a) (omega (arith, ints)))

@@ -1,10 +1,11 @@
--- Powers of the root of 2, and SameScaled.
+-- Powers of the root of 2, and numbers over them.
 use mathlib.Core.Path.{fun_ext}
 use Rattle.std.proofs.Common.{◌≡◌, ℕ, zero, suc, ◌+◌, ◌-◌, ◌^◌, refl, ap, sym, ◌∙◌, arith, suc-add, zero-add, add_comm, ap₂}
-use Rattle.std.proofs.Math.IntN.{ℤ, pos, negsuc, ◌+ℤ◌, ◌*ℤ◌}
+use Rattle.std.proofs.Math.IntN.{ℤ, pos, negsuc, ◌+ℤ◌, ◌-ℤ◌, ◌*ℤ◌}
 use Rattle.std.proofs.lemmas.Int.{ints}
 use Rattle.ps_ring.specs.Numbers.{Number, IsNumber, sqrt2, root2, above, SameScaled}
-use Rattle.ps_ring.proofs.Products.{mul_sum}
+use Rattle.ps_ring.specs.NumberLaws.{RootEven, RootOdd, SameReflexive, SameSymmetric, SameTransitive, SameByPowers, SamePowers}
+use Rattle.ps_ring.proofs.Products.{mul_sum, sum_mul}
 use Rattle.ps_ring.proofs.Turned.{sqrt2_twice, sqrt2_number}
 
 pub above_is : (k k' : ℤ) → pos (above k k') +ℤ k ≡ pos (above k' k) +ℤ k'
@@ -72,10 +73,13 @@ same_from k k' a b c c' h h' e r j =
 pub same_path : (k k' : ℤ) (c c' : Number) → SameScaled k c k' c' → root2 (above k k') c ≡ root2 (above k' k) c'
 same_path k k' c c' h = fun_ext h
 
-pub same_sym : (k k' : ℤ) (c c' : Number) → SameScaled k c k' c' → SameScaled k' c' k c
+pub same_reflexive : SameReflexive
+same_reflexive k c j = refl
+
+pub same_sym : SameSymmetric
 same_sym k k' c c' h j = sym (h j)
 
-pub same_trans : (k k' k'' : ℤ) (c c' c'' : Number) → IsNumber c → IsNumber c'' → SameScaled k c k' c' → SameScaled k' c' k'' c'' → SameScaled k c k'' c''
+pub same_trans : SameTransitive
 same_trans k k' k'' c c' c'' h h'' e f =
     let a = above k k' in
     let b = above k' k in
@@ -87,10 +91,23 @@ same_trans k k' k'' c c' c'' h h'' e f =
 pub twice_power : (n : ℕ) (v : ℤ) → pos (2 ^ suc n) *ℤ v ≡ pos (2 ^ n) *ℤ v +ℤ pos (2 ^ n) *ℤ v
 twice_power n v = let e : 2 ^ suc n ≡ 2 ^ n + 2 ^ n = omega arith in ap (λ r. pos r *ℤ v) e ∙ mul_sum (pos (2 ^ n)) (pos (2 ^ n)) v
 
-pub root2_even : (n : ℕ) (c : Number) → IsNumber c → (j : ℤ) → root2 (n + n) c j ≡ pos (2 ^ n) *ℤ c j
+pub root2_even : RootEven
 unfolding root2
 root2_even zero c h j = omega (arith, ints)
 root2_even (suc n) c h j =
     let e : suc n + suc n ≡ suc (suc (n + n)) = omega arith in
     let r = root2_even n c h j in
     ap (λ k. root2 k c j) e ∙ sqrt2_twice (root2 (n + n) c) (root2_number (n + n) c h) j ∙ ap₂ (λ a b. a +ℤ b) r r ∙ sym (twice_power n (c j))
+
+pub root2_odd : RootOdd
+unfolding root2 sqrt2
+root2_odd e c h j = ap₂ (λ a b. a +ℤ b) (root2_even e c h (j -ℤ pos 536870912)) (root2_even e c h (j +ℤ pos 536870912)) ∙ sym (sum_mul (pos (2 ^ e)) (c (j -ℤ pos 536870912)) (c (j +ℤ pos 536870912)))
+
+pub same_by_powers : SameByPowers
+same_by_powers k k' a b c c' h h' e r = same_from k k' a b c c' h h' e (fun_ext r)
+
+pub same_powers : SamePowers
+same_powers k k' a b c c' e s j =
+    let d = apart k k' a b e in
+    ap (λ n. root2 n c j) d.0 ∙ ap (λ u. u j) (root2_add (a - above k k') (above k k') c) ∙ ap (λ u. root2 (a - above k k') u j) (same_path k k' c c' s)
+    ∙ sym (ap (λ u. u j) (root2_add (a - above k k') (above k' k) c')) ∙ ap (λ n. root2 n c' j) (sym d.1)

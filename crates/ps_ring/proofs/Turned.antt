@@ -4,8 +4,9 @@ use Rattle.std.proofs.Math.IntN.{ℤ, pos, negsuc, ◌+ℤ◌, ◌-ℤ◌, neg_�
 use Rattle.std.proofs.lemmas.Int.{ints}
 use Rattle.std.proofs.lemmas.Bool.Decides.{nat_tests}
 use Rattle.ps_ring.specs.Numbers.{Number, IsNumber, one, unit_at, sqrt2}
+use Rattle.ps_ring.specs.NumberLaws.{OneIsNumber, RootTwice}
 
-pub sqrt2_twice : (c : Number) → IsNumber c → (j : ℤ) → sqrt2 (sqrt2 c) j ≡ c j +ℤ c j
+pub sqrt2_twice : RootTwice
 unfolding sqrt2
 sqrt2_twice c h j =
     let a : (j -ℤ pos 536870912) -ℤ pos 536870912 +ℤ pos 2147483648 ≡ j +ℤ pos 536870912 +ℤ pos 536870912 = omega (arith, ints) in
@@ -33,7 +34,7 @@ across a b h = grind (arith, nat_tests)
 over_zero : (n : ℕ) → (n + 1 ≡ nat_abs (pos 2147483648 +ℤ negsuc n) + 2147483648) ⊎ (nat_abs (pos 2147483648 +ℤ negsuc n) + (n + 1) ≡ 2147483648)
 over_zero n = grind (arith, nat_tests)
 
-pub one_number : IsNumber one
+pub one_number : OneIsNumber
 unfolding one
 one_number (pos n) = up_half _ _ refl
 one_number (negsuc n) = elim (over_zero n) [ inl e ↦ down_half _ (suc n) (omega (arith, e)) | inr e ↦ across _ (suc n) (omega (arith, e)) ]

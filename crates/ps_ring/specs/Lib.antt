@@ -1,1 +1,5 @@
 pub mod Numbers
+pub mod Truths
+pub mod Inner
+pub mod NumberLaws
+pub mod InnerLaws

@@ -1,4 +1,4 @@
-ghost use Rattle.std.specs.Prelude.{◌≡◌, ℕ, ◌+◌, ◌-◌, ◌*◌, ◌%◌, ◌<◌, ◌≤◌};
+ghost use Rattle.std.specs.Prelude.{◌≡◌, ℕ, ◌+◌, ◌-◌, ◌*◌, ◌%◌, ◌^◌, ◌≤◌};
 
 use std::marker::Model;
 
@@ -57,7 +57,11 @@ impl Phase {
     }
 
     /// The greatest `v`, at most 32, such that 2^v divides the units; 32 for no turn at all.
-    pub fn power(self) -> u32 {
+    pub fn power(self) -> u32
+        ensures at_most { result ≤ 32 }
+        ensures divides { self % 2 ^ result ≡ 0 }
+        ensures greatest { (v : ℕ) → v ≤ 32 → self % 2 ^ v ≡ 0 → v ≤ result }
+    {
         self.units.trailing_zeros()
     }
 }
