@@ -1,14 +1,14 @@
 -- Which token is the longest one at a place.
-use Rattle.std.proofs.Common.{◌≡◌, ℕ, ◌+◌, ◌<◌, ◌≤◌, Bool, true, false, ◌&&◌, ◌||◌, nat_eq, nat_le, ◌⊎◌, inl, inr, List, length, get_or, arith, sym, ◌∙◌, ap, subst, refl}
+use Rattle.std.proofs.Common.{◌≡◌, ℕ, ◌+◌, ◌<◌, ◌≤◌, Bool, true, false, ◌||◌, nat_eq, ◌⊎◌, inl, inr, List, length, arith, sym, ◌∙◌, ap, subst, refl}
 use Rattle.std.proofs.lemmas.Bool.Decides.{nat_tests}
 use Rattle.std.proofs.lemmas.Bool.{cases_lt}
 use Rattle.std.proofs.lemmas.List.{get_or_past}
 use Rattle.qasm_lex.specs.declared.types.Kind.{Kind}
 use Rattle.qasm_lex.specs.declared.types.Kind.TheVariants.{Word as WordToken, Number, Text as TextToken, Sign}
 use Rattle.qasm_lex.specs.declared.types.Class.{Class}
-use Rattle.qasm_lex.specs.declared.types.Class.TheVariants.{Word, Digit, Text, Comment}
+use Rattle.qasm_lex.specs.declared.types.Class.TheVariants.{Word, Digit, Text}
 use Rattle.qasm_lex.specs.Ends.{is_inner_byte, MantissaEnd, ExponentEnd}
-use Rattle.qasm_lex.specs.Tokens.{byte, NoToken, is_in, is_digit_byte, is_letter_byte, is_word_byte, is_white_byte, is_sign_byte, is_exponent_byte, is_plus_minus_byte, Run, WholeRun, IsMantissa, whole, point, front, IsExponent, none, plain, signed, Spells, word, number, text, sign, arrow, equals, IsLongest}
+use Rattle.qasm_lex.specs.Tokens.{byte, NoToken, is_in, is_digit_byte, is_letter_byte, is_sign_byte, is_exponent_byte, is_plus_minus_byte, Run, WholeRun, IsMantissa, whole, point, front, IsExponent, none, plain, signed, Spells, word, number, text, sign, arrow, equals, IsLongest}
 
 -- the first bytes of a kind of token
 abbrev pub opens : Kind → ℕ → Bool

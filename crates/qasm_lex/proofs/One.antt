@@ -1,7 +1,5 @@
 -- One reading of each text.
-use Rattle.std.proofs.Common.{◌≡◌, ℕ, ◌+◌, ◌<◌, ◌≤◌, true, false, ◌⊎◌, inl, inr, List, [], ◌∷◌, length, arith, Result, Ok, Err, sym, ◌∙◌, ap, subst, refl}
-use Rattle.std.proofs.lemmas.Bool.Decides.{nat_tests}
-use Rattle.std.proofs.lemmas.Bool.{cases_lt}
+use Rattle.std.proofs.Common.{◌≡◌, ℕ, ◌+◌, true, false, inl, inr, List, arith, Result, Err, ap, subst, refl}
 use Rattle.qasm_lex.specs.declared.types.Kind.{Kind}
 use Rattle.qasm_lex.specs.declared.types.Kind.TheVariants.{Word as WordToken, Number, Text as TextToken, Sign}
 use Rattle.qasm_lex.specs.declared.types.Class.{Class}
@@ -9,9 +7,7 @@ use Rattle.qasm_lex.specs.declared.types.Class.TheVariants.{Comment}
 use Rattle.qasm_lex.specs.declared.types.Token.{Token}
 use Rattle.qasm_lex.specs.declared.types.LexFault.{LexFault}
 use Rattle.qasm_lex.specs.declared.types.LexFault.TheVariants.{BadByte, BadNumber, OpenString, Memory}
-use Rattle.qasm_lex.specs.declared.types.Piece.{Piece}
-use Rattle.qasm_lex.specs.declared.types.Piece.TheVariants.{Gap, Token as TokenPiece, Bad}
-use Rattle.qasm_lex.specs.Tokens.{byte, is_white_byte, is_tail_byte, IsComment, Spells, IsLongest, NoGap, IsApart, IsFaultOf, IsGap, before, Reads, finished, gap, token, bad, WholeRun}
+use Rattle.qasm_lex.specs.Tokens.{byte, is_white_byte, is_tail_byte, IsLongest, NoGap, IsApart, IsFaultOf, IsGap, before, Reads, finished, gap, token, bad, WholeRun}
 use Rattle.qasm_lex.proofs.Longest.{whole_longest, first_of, one_kind}
 
 gap_not : (bytes : List ℕ) (a b : ℕ) → NoGap bytes a → IsGap bytes a b → ⊥

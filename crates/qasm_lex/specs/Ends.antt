@@ -1,7 +1,6 @@
 -- Where parts of a token end, and what stands at a place: words for the contracts inside the crate.
-use Rattle.std.specs.Prelude.{◌≡◌, ℕ, ◌+◌, ◌<◌, ◌≤◌, Bool, true, false, ◌||◌, nat_eq, ◌⊎◌, List, length, Option, Some, None}
+use Rattle.std.specs.Prelude.{◌≡◌, ℕ, ◌<◌, ◌≤◌, Bool, true, ◌||◌, nat_eq, ◌⊎◌, List, length, Option, Some, None}
 use Rattle.qasm_lex.specs.declared.types.Kind.{Kind}
-use Rattle.qasm_lex.specs.declared.types.Kind.TheVariants.{Word as WordToken, Number, Text as TextToken, Sign}
 use Rattle.qasm_lex.specs.declared.types.Piece.{Piece}
 use Rattle.qasm_lex.specs.declared.types.Piece.TheVariants.{Gap, Token as TokenPiece, Bad}
 use Rattle.qasm_lex.specs.Tokens.{byte, is_digit_byte, IsMantissa, IsExponent, IsLongest, NoToken, IsGap, IsToken, IsFault}

@@ -1,6 +1,6 @@
-use Rattle.std.proofs.Common.{◌≡◌, arith, [], ◌∷◌, sym, ap, refl, Ok, Err, subst, append-nil, length}
-use Rattle.qasm_lex.specs.Tokens.{Reads, finished, gap, token, bad, before}
-use Rattle.qasm_lex.proofs.Steps.{after, after_before, told_fault, reads_pushed, reads_end}
+use Rattle.std.proofs.Common.{arith, Err}
+use Rattle.qasm_lex.specs.Tokens.{gap, token, bad}
+use Rattle.qasm_lex.proofs.Steps.{told_fault, reads_pushed, reads_end}
 use Rattle.qasm_lex.proofs.cutting.cut.Goals as goal
 
 pub loop-at-preserved-in-Gap : goal.loop-at-preserved-in-Gap

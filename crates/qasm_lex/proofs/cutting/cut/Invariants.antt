@@ -1,4 +1,4 @@
-use Rattle.std.proofs.Common.{◌≡◌, ℕ, ◌≤◌, ◌-◌, length, Result, List}
+use Rattle.std.proofs.Common.{◌≤◌, ◌-◌, length, Result, List}
 use Rattle.qasm_lex.specs.declared.types.Token.{Token}
 use Rattle.qasm_lex.specs.declared.types.LexFault.{LexFault}
 use Rattle.qasm_lex.specs.Tokens.{Reads}

@@ -1,6 +1,6 @@
-use Rattle.std.proofs.Common.{◌≡◌, ℕ, ◌+◌, ◌<◌, ◌≤◌, arith, true, false, length, sym, ◌∙◌, ap}
+use Rattle.std.proofs.Common.{◌≡◌, ◌+◌, true, false}
 use Rattle.qasm_lex.specs.Tokens.{byte, is_digit_byte, is_exponent_byte, is_plus_minus_byte}
-use Rattle.qasm_lex.proofs.Longest.{exponent_none, exponent_short, exponent_plain, exponent_signed, front_run, not_sign_digit}
+use Rattle.qasm_lex.proofs.Longest.{exponent_short, exponent_plain, exponent_signed, front_run, not_sign_digit}
 use Rattle.qasm_lex.proofs.cutting.exponent_end.Goals as goal
 
 pub returns-then-is_digit : goal.returns-then-is_digit

@@ -1,5 +1,4 @@
-use Rattle.std.proofs.Common.{◌≡◌, ℕ, ◌+◌, ◌<◌, ◌≤◌, ◌⊎◌, inl, inr, arith, true, length, sym, ◌∙◌, rules, subst, ap}
-use Rattle.std.proofs.lemmas.Grind.{common_steps}
+use Rattle.std.proofs.Common.{◌+◌, arith, sym, ◌∙◌}
 use Rattle.qasm_lex.proofs.Longest.{mantissa_whole, mantissa_point, mantissa_front, begins_front, front_run}
 use Rattle.qasm_lex.proofs.cutting.mantissa_end.Goals as goal
 

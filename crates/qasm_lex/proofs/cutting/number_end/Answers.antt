@@ -1,4 +1,3 @@
-use Rattle.std.proofs.Common.{arith}
 use Rattle.qasm_lex.proofs.Longest.{longest_number}
 use Rattle.qasm_lex.proofs.cutting.number_end.Goals as goal
 

@@ -1,5 +1,5 @@
-use Rattle.std.proofs.Common.{◌≡◌, ℕ, ◌+◌, ◌<◌, ◌≤◌, arith, true, false, length, sym, ◌∙◌, ap}
-use Rattle.qasm_lex.specs.Tokens.{byte, is_letter_byte, is_digit_byte, is_sign_byte}
+use Rattle.std.proofs.Common.{◌≡◌, ◌+◌, arith, true, false, ◌∙◌}
+use Rattle.qasm_lex.specs.Tokens.{byte, is_sign_byte}
 use Rattle.qasm_lex.proofs.Longest.{longest_arrow, longest_equals, longest_sign, no_token}
 use Rattle.qasm_lex.proofs.cutting.sign_end.Goals as goal
 use Rattle.qasm_lex.proofs.cutting.sign_end.Goals.{else-first-eq45-via-then-first-eq45+else-next-eq62, else-first-eq45-via-else-first-eq45, else-first-eq61-via-then-first-eq61+else-next-eq61, else-first-eq61-via-else-first-eq61}

@@ -1,4 +1,4 @@
-use Rattle.std.proofs.Common.{◌≡◌, ℕ, ◌+◌, ◌<◌, ◌≤◌, arith, true, false, length, sym, ◌∙◌, ap}
+use Rattle.std.proofs.Common.{◌≡◌, arith, ◌∙◌}
 use Rattle.qasm_lex.specs.Tokens.{byte}
 use Rattle.qasm_lex.proofs.Longest.{longest_text, open_text}
 use Rattle.qasm_lex.proofs.cutting.text_end.Goals as goal

@@ -1,6 +1,5 @@
-use Rattle.std.proofs.Common.{◌≡◌, Ok, Err}
+use Rattle.std.proofs.Common.{Ok, Err}
 use Rattle.std.proofs.lemmas.Result.{MatchResult-from_both, IfOk-weaker, IfErr-weaker}
-use Rattle.qasm_lex.specs.Tokens.{Reads, IsOnly, Told}
 use Rattle.qasm_lex.proofs.Steps.{told_weaker}
 use Rattle.qasm_lex.proofs.One.{one_reading}
 use Rattle.qasm_lex.proofs.cutting.tokens.Goals as goal
