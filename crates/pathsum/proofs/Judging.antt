@@ -1,5 +1,7 @@
 -- From the answer to two lists of prims to the answer of a call.
-use Rattle.std.proofs.Common.{◌≡◌, ℕ, refl, ap, sym, ◌∙◌, ◌<◌, ◌≤◌, Option, Some, None, List, [], ◌∷◌, ◌++◌, length, subst, ◌⊎◌, inl, inr, append-nil}
+use Rattle.std.proofs.Common.{◌≡◌, ℕ, refl, ap, sym, ◌∙◌, ◌<◌, ◌≤◌, Option, Some, None, List, [], ◌∷◌, ◌++◌, length, subst, ◌⊎◌, inl, inr, append-nil, get_or, map, arith, Bool, true}
+use Rattle.std.specs.Str.{bytes_eq}
+use Rattle.std.proofs.lemmas.Slice.Eq.{bytes_eq-Decides}
 use Rattle.std.specs.Io.KnownBytes.{prepend_known, IsAtEnd}
 use Rattle.std.specs.Prelude.{IfSome}
 use Rattle.ps_prim.specs.declared.prims.Prim.{Prim}
@@ -61,3 +63,19 @@ same_ends words told old new s s' f f' status w e = record { answer = e.answer; 
 -- the lists behind two slices
 pub decides_lists : (n : ℕ) (A A' B B' : List Prim) (answer : Answer) → A ≡ A' → B ≡ B' → Decides n A B answer → Decides n A' B' answer
 decides_lists n A A' B B' answer a b d = subst (λ (C : List Prim). Decides n A' C answer) b (subst (λ (C : List Prim). Decides n C B answer) a d)
+
+one_word : {X : Type 0} (f : X → List ℕ) (ws : List X) (w : X) → length ws ≡ 1 → w ≡ get_or ws 0 w → map f ws ≡ f w ∷ []
+one_word f [] w l e = absurd (omega arith)
+one_word f (v ∷ []) w l e = ap (λ u. f u ∷ []) (sym e)
+one_word f (v ∷ u ∷ ws) w l e = absurd (omega arith)
+
+-- a test of the only word
+pub one_decides : {X : Type 0} (f : X → List ℕ) (ws : List X) (w : X) (t text : List ℕ) (r : Bool) → length ws ≡ 1 → w ≡ get_or ws 0 w → text ≡ f w → r ≡ bytes_eq text t
+    → (r ≡ true → map f ws ≡ t ∷ []) × (map f ws ≡ t ∷ [] → r ≡ true)
+one_decides f ws w t text r l e s d =
+    let o = one_word f ws w l e in
+    (λ h. o ∙ ap (λ (x : List ℕ). x ∷ []) (sym s ∙ (bytes_eq-Decides text t).0 (sym d ∙ h)),
+     λ h. d ∙ (bytes_eq-Decides text t).1 (s ∙ head (sym o ∙ h)))
+  where
+    head : {x y : List ℕ} → x ∷ [] ≡ y ∷ [] → x ≡ y
+    head e = cc

@@ -5,6 +5,6 @@ use Rattle.pathsum.proofs.same.answer.Goals as goal
 
 pub returns-in-Ok : goal.returns-in-Ok
 returns-in-Ok g c =
-    let few : length c.in-Ok.bytes.items ≤ 16777216 = omega (arith, ap length c.deref.ensures.value, c.deref.ensures.len) in
+    let few : length c.in-Ok.bytes.items ≤ 16777216 = omega (arith, ap length c.deref.ensures.value, c.deref.ensures.len, c.in-Ok.ensures.within) in
     deserves_judged _ _ c.in-Ok.bytes.items _ _ _ c.in-Ok.ensures.whole c.in-Ok.ensures.ended few
     (subst (λ (bytes : List ℕ). Judges bytes c.judge.result) c.deref.ensures.value c.judge.ensures)
