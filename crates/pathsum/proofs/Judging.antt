@@ -58,7 +58,12 @@ same_ends words told old new s s' f f' status w e = record { answer = e.answer; 
     answers Words d = absurd d
     answers Read d = (w, d)
     answers TooLong d = (w, d)
-    answers Memory d = (w, d)
+    answers Memory d = tt
+
+-- the call with other words
+pub words_end : (words : List (List ℕ)) (told old new : Option (List ℕ)) (s s' f f' : ℕ) (status : ℕ) → ¬ (IsSame words)
+    → (Writes old new f f' (line_of Words) 64 status) ⊎ (Writes old new f f' (line_of Memory) 70 status) → Ends (Answers words told s s') old new f f' status
+words_end words told old new s s' f f' status w e = printed (Answers words told s s') old new f f' status Words w tt e
 
 -- the lists behind two slices
 pub decides_lists : (n : ℕ) (A A' B B' : List Prim) (answer : Answer) → A ≡ A' → B ≡ B' → Decides n A B answer → Decides n A' B' answer

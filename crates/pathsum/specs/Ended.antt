@@ -36,6 +36,7 @@ IsSame words = words ≡ codes "same" ∷ []
 -- what an answer of the program claims of its words and its input
 abbrev pub Answers : List (List ℕ) → Option (List ℕ) → ℕ → ℕ → Answer → Type 0
 Answers words told old new Words = ¬ (IsSame words)
+Answers words told old new Memory = Unit {0}
 Answers words told old new answer = IsSame words × Deserves told old new answer
 
 -- the line was written and the status is the wanted one, or the sink failed, which makes every status 67

@@ -1,5 +1,5 @@
 use Rattle.std.proofs.Common.{◌≡◌, sym, ◌∙◌, true, false}
-use Rattle.pathsum.proofs.Judging.{printed, same_ends}
+use Rattle.pathsum.proofs.Judging.{same_ends, words_end}
 use Rattle.pathsum.proofs.run.Goals as goal
 
 pub returns-then-is_same : goal.returns-then-is_same
@@ -9,4 +9,4 @@ off : false ≡ true → ⊥
 off e = cc
 
 pub returns-else-is_same : goal.returns-else-is_same
-returns-else-is_same g c = printed _ _ _ _ _ _ _ (λ w. off (sym c.if-is_same.false ∙ c.is_same.ensures.1 w)) ? c.print.ensures
+returns-else-is_same g c = words_end _ _ _ _ _ _ _ _ _ (λ w. off (sym c.if-is_same.false ∙ c.is_same.ensures.1 w)) c.print.ensures
