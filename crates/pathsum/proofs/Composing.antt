@@ -1,7 +1,11 @@
 -- One more prim behind a composed list.
-use Rattle.std.proofs.Common.{◌≡◌, ◌≢◌, ℕ, zero, suc, ◌+◌, ◌*◌, ◌%◌, refl, ap, ap₂, sym, ◌∙◌, subst, arith, ◌<◌, ◌≤◌, Bool, true, false, not, ◌&&◌, ◌||◌, cond, nat_eq, List, [], ◌∷◌, ◌++◌, length, get_or, set, ◌⊎◌, inl, inr}
+use Rattle.std.proofs.Common.{◌≡◌, ◌≢◌, ℕ, zero, suc, ◌+◌, ◌*◌, ◌%◌, refl, ap, ap₂, sym, ◌∙◌, subst, arith, ◌<◌, ◌≤◌, Bool, true, false, not, ◌&&◌, ◌||◌, cond, nat_eq, List, [], ◌∷◌, ◌++◌, length, get_or, set, take, ◌⊎◌, inl, inr}
 use Rattle.std.proofs.lemmas.Bool.{cases_eq}
-use Rattle.std.proofs.lemmas.List.{get_or-set_same, get_or-set_other, length-set}
+use Rattle.std.proofs.lemmas.List.{get_or-set_same, get_or-set_other, length-set, take_all, take_more}
+use Rattle.std.proofs.lemmas.Bool.{cases_lt}
+use Rattle.std.proofs.Math.ListN.{get_or-append}
+use Rattle.std.proofs.Math.Seq.{get_or-append_seam}
+use Rattle.std.proofs.Common.{length-append}
 use Rattle.ps_mono.specs.Truth.{differ, times}
 use Rattle.ps_mono.specs.Sets.{stands, holds}
 use Rattle.ps_mono.specs.Lists.{members_one, nat_eq_same, nat_eq_other}
@@ -12,7 +16,9 @@ use Rattle.ps_prim.specs.declared.prims.Prim.{Prim}
 use Rattle.ps_prim.specs.declared.prims.Prim.TheVariants.{U, Cx}
 use Rattle.ps_prim.specs.Amplitudes.{Truths, bit, exchanged, flipped}
 use Rattle.ps_prim.proofs.Bits.{length-exchanged}
-use Rattle.pathsum.specs.Composed.{outputs_of, turn_of, IsPolyOf, IsPhaseOf, IsComposed}
+use Rattle.pathsum.specs.Composed.{outputs_of, turn_of, IsPolyOf, IsPhaseOf, IsComposed, Exchanged}
+use Rattle.ps_prim.specs.Maps.{IsWithin, AllWithin}
+use Rattle.pathsum.specs.Plain.{AllPlain, IsPlainPrim}
 
 pub outputs-append : (A B : List Prim) (x : Truths) → outputs_of (A ++ B) x ≡ outputs_of B (outputs_of A x)
 unfolding outputs_of
@@ -59,7 +65,7 @@ exchanged_elsewhere : (c t q : ℕ) (z : Truths) → q ≢ t → bit (exchanged 
 unfolding exchanged
 exchanged_elsewhere c t q z d = flipped_elsewhere (bit z c) t q z d
 
-no_inputs : (f g p : List (List ℕ)) (v : ℕ) → occurs v f ≡ false → occurs v g ≡ false → (occurs v p ≡ true → (occurs v f || occurs v g) ≡ true) → occurs v p ≡ false
+pub no_inputs : (f g p : List (List ℕ)) (v : ℕ) → occurs v f ≡ false → occurs v g ≡ false → (occurs v p ≡ true → (occurs v f || occurs v g) ≡ true) → occurs v p ≡ false
 no_inputs f g p v a b h = by (occurs v p) refl
   where
     by : (r : Bool) → occurs v p ≡ r → r ≡ false
@@ -125,15 +131,15 @@ composed_cx n A outs phase c t p w cn tn d form value variables = record {
         })
 
 -- the phase behind one more turn
-pub composed_turn : (n : ℕ) (A : List Prim) (outs : List (List (List ℕ))) (phase lifted phase' : List Term) (phi lambda q : ℕ) → IsComposed n A outs phase → q < n
-    → ((a : ℕ → Bool) → phase_value lifted a % 4294967296 ≡ times (bool_value (get_or outs q []) a) ((2 * phi + 2 * lambda) % 4294967296) % 4294967296)
+pub composed_turn : (n : ℕ) (A : List Prim) (outs : List (List (List ℕ))) (phase lifted phase' : List Term) (phi lambda by q : ℕ) → IsComposed n A outs phase → q < n → by ≡ ((2 * phi) % 4294967296 + (2 * lambda) % 4294967296) % 4294967296
+    → ((a : ℕ → Bool) → phase_value lifted a % 4294967296 ≡ times (bool_value (get_or outs q []) a) by % 4294967296)
     → ((v : ℕ) → phase_occurs v lifted ≡ true → occurs v (get_or outs q []) ≡ true)
     → IsPhasePoly phase'
     → ((a : ℕ → Bool) → phase_value phase' a % 4294967296 ≡ (phase_value phase a + phase_value lifted a) % 4294967296)
     → ((v : ℕ) → phase_occurs v phase' ≡ true → (phase_occurs v phase || phase_occurs v lifted) ≡ true)
     → IsComposed n (A ++ (U 0 phi lambda q ∷ [])) outs phase'
 unfolding outputs_of turn_of times
-composed_turn n A outs phase lifted phase' phi lambda q w qn lift lift_variables form value variables = record {
+composed_turn n A outs phase lifted phase' phi lambda by q w qn same lift lift_variables form value variables = record {
   width = w.width;
   output = λ i h. record {
     form = (w.output i h).form;
@@ -144,7 +150,7 @@ composed_turn n A outs phase lifted phase' phi lambda q w qn lift lift_variables
     form = form;
     inputs = λ v l. phase_inputs phase lifted phase' (get_or outs q []) v (w.turn.inputs v l) ((w.output q qn).inputs v l) (lift_variables v) (variables v);
     value = λ x l. value (bit x) ∙ added (phase_value phase (bit x)) (phase_value lifted (bit x)) (turn_of A x) _ (w.turn.value x l)
-        (lift (bit x) ∙ ap (λ b. times b ((2 * phi + 2 * lambda) % 4294967296) % 4294967296) ((w.output q qn).value x l) ∙ reduced (bit (outputs_of A x) q) (2 * phi + 2 * lambda))
+        (lift (bit x) ∙ ap (λ b. times b by % 4294967296) ((w.output q qn).value x l) ∙ reduced (bit (outputs_of A x) q))
         ∙ ap (λ k. k % 4294967296) (sym (more x));
   };
 }
@@ -155,9 +161,9 @@ composed_turn n A outs phase lifted phase' phi lambda q w qn lift lift_variables
     more x = turn-append A (U 0 phi lambda q ∷ []) x ∙ omega arith
     added : (p l k r : ℕ) → p % 4294967296 ≡ k % 4294967296 → l % 4294967296 ≡ r % 4294967296 → (p + l) % 4294967296 ≡ (k + r) % 4294967296
     added p l k r e f = omega arith
-    reduced : (b : Bool) (k : ℕ) → times b (k % 4294967296) % 4294967296 ≡ cond b k 0 % 4294967296
-    reduced true k = omega arith
-    reduced false k = refl
+    reduced : (b : Bool) → times b by % 4294967296 ≡ cond b (2 * phi + 2 * lambda) 0 % 4294967296
+    reduced true = omega (arith, same)
+    reduced false = refl
 
 own_stands : (q : ℕ) → stands q (q ∷ []) ≡ true
 unfolding stands
@@ -183,3 +189,50 @@ composed_nothing n outs phase e f s p = record {
     alone : (b : Bool) → differ (b && true) false ≡ b
     alone true = refl
     alone false = refl
+
+-- an exchange of outputs is the step of a controlled not
+pub composed_exchange : (n : ℕ) (A : List Prim) (outs new : List (List (List ℕ))) (phase : List Term) (c t : ℕ) → Exchanged outs new c t → IsWithin (length outs) (Cx c t) → IsComposed n A outs phase → IsComposed n (A ++ (Cx c t ∷ [])) new phase
+composed_exchange n A outs new phase c t e i w =
+    let wide : length outs ≡ n = w.width in
+    subst (λ (o : List (List (List ℕ))). IsComposed n (A ++ (Cx c t ∷ [])) o phase) (sym e.placed)
+    (composed_cx n A outs phase c t e.sum w (omega (arith, i.0)) (omega (arith, i.1)) i.2 e.form e.value e.variables)
+
+plain_at : (prims : List Prim) (i : ℕ) (d : Prim) → AllPlain prims → i < length prims → IsPlainPrim (get_or prims i d)
+plain_at [] i d p l = absurd (omega arith)
+plain_at (Cx c t ∷ prims) zero d p l = tt
+plain_at (U theta phi lambda q ∷ prims) zero d p l = p.0
+plain_at (Cx c t ∷ prims) (suc i) d p l = plain_at prims i d p (omega arith)
+plain_at (U theta phi lambda q ∷ prims) (suc i) d p l = plain_at prims i d p.1 (omega arith)
+
+-- one more prim of a list
+pub composed_step : (n i : ℕ) (prims : List Prim) (prim : Prim) (outs outs' : List (List (List ℕ))) (phase phase' : List Term) → i < length prims → prim ≡ get_or prims i prim → AllPlain prims
+    → IsComposed n (take i prims) outs phase
+    → ((m : ℕ) (A : List Prim) → IsPlainPrim prim → IsComposed m A outs phase → IsComposed m (A ++ (prim ∷ [])) outs' phase')
+    → IsComposed n (take (i + 1) prims) outs' phase'
+composed_step n i prims prim outs outs' phase phase' l e p w f =
+    subst (λ (A : List Prim). IsComposed n A outs' phase') (sym (take_more prims i prim l ∙ ap (λ g. take i prims ++ (g ∷ [])) (sym e)))
+    (f n (take i prims) (subst IsPlainPrim (sym e) (plain_at prims i prim p l)) w)
+
+-- a prim of a list is within what all of them are within
+pub within_at : (n i : ℕ) (prims : List Prim) (prim : Prim) (outs : List (List (List ℕ))) (phase : List Term) → AllWithin n prims → i < length prims → prim ≡ get_or prims i prim → IsComposed n (take i prims) outs phase → IsWithin (length outs) prim
+within_at n i prims prim outs phase a l e w = subst (λ (k : ℕ). IsWithin k prim) (sym w.width) (subst (IsWithin n) (sym e) (at prims i a l))
+  where
+    at : (gs : List Prim) (k : ℕ) → AllWithin n gs → k < length gs → IsWithin n (get_or gs k prim)
+    at [] k b m = absurd (omega arith)
+    at (g ∷ gs) zero b m = b.0
+    at (g ∷ gs) (suc k) b m = at gs k b.1 (omega arith)
+
+-- all of a list
+pub composed_all : (n i : ℕ) (prims : List Prim) (outs : List (List (List ℕ))) (phase : List Term) → length prims ≤ i → IsComposed n (take i prims) outs phase → IsComposed n prims outs phase
+composed_all n i prims outs phase l w = subst (λ (A : List Prim). IsComposed n A outs phase) (take_all i prims l) w
+
+-- one more input
+pub inputs_more : (v : ℕ) (outs outs' : List (List (List ℕ))) (f : List (List ℕ)) → length outs ≡ v → ((q : ℕ) → q < v → get_or outs q [] ≡ (q ∷ []) ∷ []) → f ≡ (v ∷ []) ∷ [] → outs' ≡ outs ++ (f ∷ [])
+    → (length outs' ≡ v + 1) × ((q : ℕ) → q < v + 1 → get_or outs' q [] ≡ (q ∷ []) ∷ [])
+inputs_more v outs outs' f w h e o = (ap length o ∙ (length-append outs (f ∷ []) ∙ ap (λ k. k + 1) w), λ q l. ap (λ (xs : List (List (List ℕ))). get_or xs q []) o ∙ by q l (cases_lt q v))
+  where
+    by : (q : ℕ) → q < v + 1 → ((q < v) ⊎ (v ≤ q)) → get_or (outs ++ (f ∷ [])) q [] ≡ (q ∷ []) ∷ []
+    by q l (inl k) = get_or-append outs (f ∷ []) [] q (omega (arith, w)) ∙ h q k
+    by q l (inr k) =
+        let s : q ≡ length outs = omega (arith, w) in
+        ap (λ i. get_or (outs ++ (f ∷ [])) i []) s ∙ get_or-append_seam outs f [] [] ∙ e ∙ ap (λ i. (i ∷ []) ∷ []) (sym w ∙ sym s)

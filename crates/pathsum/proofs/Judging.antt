@@ -8,10 +8,11 @@ use Rattle.ps_prim.specs.declared.prims.Prim.{Prim}
 use Rattle.pathsum.specs.declared.answer.Answer.{Answer}
 use Rattle.pathsum.specs.declared.answer.Answer.TheVariants.{Yes, No, Passed, Words, NotYet, Read, TooLong, Memory}
 use Rattle.pathsum.specs.Answers.{status_of, line_of}
+use Rattle.pathsum.specs.Plain.{IsOnePair}
 use Rattle.pathsum.specs.Verdicts.{Decides}
-use Rattle.pathsum.specs.Ended.{ReadsPair, Judges, Deserves, Answers, IsSame, Ends, Writes}
+use Rattle.pathsum.specs.Ended.{Judges, Deserves, Answers, IsSame, Ends, Writes}
 
-pub judges_pair : (bytes : List ℕ) (n : ℕ) (A B : List Prim) (answer : Answer) → ReadsPair bytes n A B → Decides n A B answer → Judges bytes answer
+pub judges_pair : (bytes : List ℕ) (n : ℕ) (A B : List Prim) (answer : Answer) → IsOnePair bytes n A B → Decides n A B answer → Judges bytes answer
 judges_pair bytes n A B Yes r d = (n, A, B, r, d)
 judges_pair bytes n A B (No input) r d = (n, A, B, r, d)
 judges_pair bytes n A B (Passed count) r d = (n, A, B, r, d)

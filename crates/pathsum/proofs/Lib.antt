@@ -1,3 +1,4 @@
 pub mod InputLemmas
 pub mod Composing
+pub mod Comparing
 pub mod Judging

@@ -1,5 +1,6 @@
 -- What plain lists of prims come to, and the polynomials that stand for it.
-use Rattle.std.specs.Prelude.{ℕ, ◌≡◌, ◌+◌, ◌*◌, ◌%◌, ◌<◌, ◌≤◌, Bool, false, cond, List, [], ◌∷◌, ◌++◌, length, get_or}
+use Rattle.std.specs.Prelude.{ℕ, ◌≡◌, ◌+◌, ◌*◌, ◌%◌, ◌<◌, ◌≤◌, Bool, true, false, ◌||◌, cond, List, [], ◌∷◌, ◌++◌, length, get_or, set}
+use Rattle.ps_mono.specs.Truth.{differ}
 use Rattle.ps_bool.specs.Polys.{bool_value, occurs, IsPoly}
 use Rattle.ps_phase.specs.declared.terms.Term.{Term}
 use Rattle.ps_phase.specs.Phases.{phase_value, phase_occurs, IsPhasePoly}
@@ -36,3 +37,11 @@ pub record IsComposed (n : ℕ) (A : List Prim) (outs : List (List (List ℕ))) 
   pub width : length outs ≡ n
   pub output : (q : ℕ) → q < n → IsPolyOf n (λ x. bit (outputs_of A x) q) (get_or outs q [])
   pub turn : IsPhaseOf n (turn_of A) phase
+
+-- output t became the sum of outputs t and c
+pub record Exchanged (old new : List (List (List ℕ))) (c t : ℕ) : Type 0 where
+  pub sum : List (List ℕ)
+  pub placed : new ≡ set old t sum
+  pub form : IsPoly sum
+  pub value : (a : ℕ → Bool) → bool_value sum a ≡ differ (bool_value (get_or old t []) a) (bool_value (get_or old c []) a)
+  pub variables : (v : ℕ) → occurs v sum ≡ true → (occurs v (get_or old t []) || occurs v (get_or old c [])) ≡ true

@@ -7,19 +7,14 @@ use Rattle.ps_prim.specs.declared.prims.Prim.{Prim}
 use Rattle.pathsum.specs.declared.answer.Answer.{Answer}
 use Rattle.pathsum.specs.declared.answer.Answer.TheVariants.{Yes, No, Passed, Words, NotYet, Read, TooLong, Memory}
 use Rattle.pathsum.specs.Answers.{status_of, line_of}
-use Rattle.pathsum.specs.Plain.{SpellsPair}
+use Rattle.pathsum.specs.Plain.{IsOnePair, IsNoPair}
 use Rattle.pathsum.specs.Verdicts.{Decides}
-
--- the bytes are a plain pair, and it can be read in no other way
-pub record ReadsPair (bytes : List ℕ) (n : ℕ) (A B : List Prim) : Type 0 where
-  pub spelled : SpellsPair bytes n A B
-  pub only : (m : ℕ) (C D : List Prim) → SpellsPair bytes m C D → (m ≡ n) × (C ≡ A) × (D ≡ B)
 
 -- what an answer claims of an input that was read to its end; want of memory claims nothing
 abbrev pub Judges : List ℕ → Answer → Type 0
-Judges bytes NotYet = (n : ℕ) (A B : List Prim) → ¬ (SpellsPair bytes n A B)
+Judges bytes NotYet = IsNoPair bytes
 Judges bytes Memory = Unit {0}
-Judges bytes answer = (n : ℕ) × (A : List Prim) × (B : List Prim) × ReadsPair bytes n A B × Decides n A B answer
+Judges bytes answer = (n : ℕ) × (A : List Prim) × (B : List Prim) × IsOnePair bytes n A B × Decides n A B answer
 
 -- what an answer of `same` claims of the bytes that the source told, and of its counts of faults
 abbrev pub Deserves : Option (List ℕ) → ℕ → ℕ → Answer → Type 0

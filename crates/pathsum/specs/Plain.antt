@@ -4,6 +4,7 @@ use Rattle.std.specs.List.{list_all}
 use Rattle.std.specs.Int.{is_power_of_two}
 use Rattle.ps_prim.specs.declared.prims.Prim.{Prim}
 use Rattle.ps_prim.specs.declared.prims.Prim.TheVariants.{U, Cx}
+use Rattle.ps_prim.specs.Maps.{AllWithin}
 
 -- the digits 0 to 9
 abbrev pub is_digit : ℕ → Bool
@@ -113,3 +114,28 @@ abbrev pub AllPlain : List Prim → Type 0
 AllPlain [] = Unit {0}
 AllPlain (Cx c t ∷ gs) = AllPlain gs
 AllPlain (U theta phi lambda q ∷ gs) = (theta ≡ 0) × AllPlain gs
+
+-- the bytes are a plain pair, and of no other size and no other prims
+pub record IsOnePair (bytes : List ℕ) (n : ℕ) (A B : List Prim) : Type 0 where
+  pub read : SpellsPair bytes n A B
+  pub only : (m : ℕ) (C D : List Prim) → SpellsPair bytes m C D → (m ≡ n) × (C ≡ A) × (D ≡ B)
+
+-- the bytes are no plain pair
+abbrev pub IsNoPair : List ℕ → Type 0
+IsNoPair bytes = (n : ℕ) (A B : List Prim) → SpellsPair bytes n A B → ⊥
+
+-- the limits that each plain pair keeps
+pub record IsFit (n : ℕ) (A B : List Prim) : Type 0 where
+  pub least : 1 ≤ n
+  pub most : n ≤ 64
+  pub first_few : length A ≤ 65536
+  pub second_few : length B ≤ 65536
+  pub first_within : AllWithin n A
+  pub second_within : AllWithin n B
+  pub first_plain : AllPlain A
+  pub second_plain : AllPlain B
+
+-- if the prim is a U, its first angle is 0
+abbrev pub IsPlainPrim : Prim → Type 0
+IsPlainPrim (Cx c t) = Unit {0}
+IsPlainPrim (U theta phi lambda q) = theta ≡ 0

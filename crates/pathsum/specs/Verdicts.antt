@@ -18,11 +18,29 @@ OutputDifference n A B q d = IsPolyOf n (λ x. differ (bit (outputs_of A x) q) (
 abbrev pub PhaseDifference : ℕ → List Prim → List Prim → List Term → Type 0
 PhaseDifference n A B p = IsPhaseOf n (λ x. turn_of B x + (4294967296 - turn_of A x % 4294967296)) p
 
+-- no output differs
+abbrev pub NoOutput : ℕ → List Prim → List Prim → Type 0
+NoOutput n A B = (q : ℕ) → q < n → OutputDifference n A B q []
+
+-- m is the least monomial of the difference of the first output that differs
+pub record LeastOutput (n : ℕ) (A B : List Prim) (m : List ℕ) : Type 0 where
+  pub q : ℕ
+  pub rest : List (List ℕ)
+  pub below : q < n
+  pub first : (r : ℕ) → r < q → OutputDifference n A B r []
+  pub difference : OutputDifference n A B q (m ∷ rest)
+
+-- m is the monomial of the least term of the difference of the phases
+pub record LeastPhase (n : ℕ) (A B : List Prim) (m : List ℕ) : Type 0 where
+  pub turn : ℕ
+  pub rest : List Term
+  pub difference : PhaseDifference n A B (record { mono = m; phase = turn } ∷ rest)
+
 -- x is 1 in just the variables of the least monomial of the first differing output's difference, or, where no output
 -- differs, of the phases' difference
 pub data IsFirstDifference (n : ℕ) (A B : List Prim) (x : Truths) : Type 0 where
-  output : (q : ℕ) (m : List ℕ) (d : List (List ℕ)) → q < n → ((r : ℕ) → r < q → OutputDifference n A B r []) → OutputDifference n A B q (m ∷ d) → x ≡ input_of n m → IsFirstDifference n A B x
-  phase : (t : Term) (d : List Term) → ((r : ℕ) → r < n → OutputDifference n A B r []) → PhaseDifference n A B (t ∷ d) → x ≡ input_of n t.mono → IsFirstDifference n A B x
+  output : (m : List ℕ) → LeastOutput n A B m → x ≡ input_of n m → IsFirstDifference n A B x
+  phase : (m : List ℕ) → NoOutput n A B → LeastPhase n A B m → x ≡ input_of n m → IsFirstDifference n A B x
 
 -- what an answer claims of the lists A and B on n qubits
 abbrev pub Decides : ℕ → List Prim → List Prim → Answer → Type 0

@@ -68,7 +68,7 @@ fn no_line(alloc: Global, input: &Input) -> Result<Vec<u8>, AllocError>
     let mut line = b"no ".to_vec(alloc)?;
     let at = input.at;
     for v in 0..input.qubits as u16 {
-        line.push(if at.get(v) { b'1' } else { b'0' })?;
+        line.push(if at.contains(v) { b'1' } else { b'0' })?;
     }
     line.push(b'\n')?;
     Ok(line)

@@ -5,8 +5,10 @@ ghost use Rattle.std.specs.Prelude.{◌↔◌, IsTrue, map, string_bytes};
 ghost use Rattle.pathsum.specs.Ended.{Answers, Ends, IsSame};
 
 mod answer;
+mod compose;
 mod ended;
 mod input;
+mod lifting;
 mod plain;
 mod print;
 mod same;

@@ -1,6 +1,5 @@
 ghost use Rattle.std.specs.Prelude.{◌≡◌, ℕ, List, IfOk, MatchOption};
-ghost use Rattle.pathsum.specs.Ended.{ReadsPair};
-ghost use Rattle.pathsum.specs.Plain.{SpellsPair, AllPlain};
+ghost use Rattle.pathsum.specs.Plain.{IsOnePair, IsNoPair, IsFit};
 ghost use Rattle.ps_prim.specs.Maps.{AllWithin};
 ghost use Rattle.std.specs.Prelude.{◌≤◌};
 ghost use Rattle.ps_prim.specs.declared.prims.Prim.{Prim};
@@ -15,8 +14,8 @@ pub struct PlainPair {
 }
 
 pub fn read_pair(_alloc: Global, _bytes: &[u8]) -> Result<Option<PlainPair>, AllocError>
-    ensures read { IfOk result (λ r. MatchOption r ((n : ℕ) (A B : List Prim) → ¬ (SpellsPair _bytes.now n A B)) (λ p. ReadsPair _bytes.now p.qubits p.first.items p.second.items)) }
-    ensures fits { IfOk result (λ r. MatchOption r (Unit {0}) (λ p. (1 ≤ p.qubits) × (p.qubits ≤ 64) × AllWithin p.qubits p.first.items × AllWithin p.qubits p.second.items × AllPlain p.first.items × AllPlain p.second.items)) }
+    ensures read { IfOk result (λ r. MatchOption r (IsNoPair _bytes.now) (λ p. IsOnePair _bytes.now p.qubits p.first.items p.second.items)) }
+    ensures fits { IfOk result (λ r. MatchOption r (Unit {0}) (λ p. IsFit p.qubits p.first.items p.second.items)) }
 {
     Err(AllocError)
 }

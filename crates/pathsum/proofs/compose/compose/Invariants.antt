@@ -1,0 +1,6 @@
+use Rattle.std.proofs.Common.{take}
+use Rattle.pathsum.specs.Composed.{IsComposed}
+use Rattle.pathsum.proofs.compose.compose.Given as goal
+
+abbrev pub invariant-loop-prim : goal.invariant-loop-prim
+invariant-loop-prim l = IsComposed l.qubits (take l.prim-index l.prims) l.sum.outputs.items l.sum.phase
