@@ -124,6 +124,16 @@ neither false q e = (refl, e)
 pub no_or : (p q : Bool) → p ≡ false → q ≡ false → (p || q) ≡ false
 no_or p q e f = ap₂ (λ (x y : Bool). x || y) e f
 
+-- where r is false with p and q, one of them is true with r
+pub from_two : (p q r : Bool) → (p ≡ false → q ≡ false → r ≡ false) → r ≡ true → (p || q) ≡ true
+from_two true q r f h = refl
+from_two false true r f h = refl
+from_two false false r f h = sym (f refl refl) ∙ h
+
+pub from_one : (p r : Bool) → (p ≡ false → r ≡ false) → r ≡ true → p ≡ true
+from_one true r f h = refl
+from_one false r f h = sym (f refl) ∙ h
+
 pub choose_free : (v : ℕ) (o : Ordering) (u w z : List Term) → phase_occurs v u ≡ false → phase_occurs v w ≡ false → phase_occurs v z ≡ false → phase_occurs v (choose o u w z) ≡ false
 unfolding choose
 choose_free v Less u w z a b c = a
@@ -221,8 +231,8 @@ sum_form xs ys f g vs ef eg e s t = subst IsPhasePoly (sym (e ∙ ap₂ add_term
 pub sum_value : (p q xs ys f g vs : List Term) → xs ≡ p → ys ≡ q → f ≡ xs → g ≡ ys → vs ≡ add_terms f g → (a : ℕ → Bool) → phase_value vs a % M ≡ (phase_value p a + phase_value q a) % M
 sum_value p q xs ys f g vs ep eq ef eg e a = ap (λ (u : List Term). phase_value u a % M) (e ∙ ap₂ add_terms (ef ∙ ep) (eg ∙ eq)) ∙ add_value p q a
 
-pub sum_free : (p q xs ys f g vs : List Term) → xs ≡ p → ys ≡ q → f ≡ xs → g ≡ ys → vs ≡ add_terms f g → (v : ℕ) → phase_occurs v p ≡ false → phase_occurs v q ≡ false → phase_occurs v vs ≡ false
-sum_free p q xs ys f g vs ep eq ef eg e v a b = ap (phase_occurs v) (e ∙ ap₂ add_terms (ef ∙ ep) (eg ∙ eq)) ∙ add_free v p q a b
+pub sum_free : (p q xs ys f g vs : List Term) → xs ≡ p → ys ≡ q → f ≡ xs → g ≡ ys → vs ≡ add_terms f g → (v : ℕ) → phase_occurs v vs ≡ true → (phase_occurs v p || phase_occurs v q) ≡ true
+sum_free p q xs ys f g vs ep eq ef eg e v h = from_two _ _ _ (λ a b. add_free v p q a b) (ap (phase_occurs v) (sym (e ∙ ap₂ add_terms (ef ∙ ep) (eg ∙ eq))) ∙ h)
 
 -- ---- one term
 pub set_empty : IsVarSet []

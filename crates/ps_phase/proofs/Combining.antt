@@ -16,7 +16,7 @@ use Rattle.ps_mono.specs.Truth.{times}
 use Rattle.ps_mono.proofs.Orders.{mono_total, mono_equal, mono_same, mono_flip, mono_trans}
 use Rattle.ps_phase.specs.Phases.{phase_value, phase_occurs, coefficient, TermBefore, IsPhasePoly, AllSmall}
 use Rattle.ps_phase.specs.Adding.{choose, put_term, combined_terms}
-use Rattle.ps_phase.proofs.Adding.{M, put_value, put_before, put_form, put_free, put_append, cut, choose_value, choose_before, choose_form, choose_free, both_value, neither, no_or, set_empty, times_none}
+use Rattle.ps_phase.proofs.Adding.{M, put_value, put_before, put_form, put_free, put_append, cut, choose_value, choose_before, choose_form, choose_free, both_value, neither, no_or, set_empty, times_none, from_one}
 
 -- ---- values
 apart : (m : List ℕ) (p : ℕ) (t : Term) (ts : List Term) (a : ℕ → Bool) → phase_value (combined_terms t.mono t.phase ts) a % M ≡ (times (holds t.mono a) t.phase + phase_value ts a) % M
@@ -190,9 +190,9 @@ gathered_value xs ys zs vs ez ev p a =
     let w = ap (λ (r : List Term). phase_value r a) ez ∙ moved_value xs ys a p in
     omega arith
 
-pub gathered_free : (xs ys zs vs : List Term) → zs ≡ ys → vs ≡ combined_terms [] 0 zs → IsPermutation xs ys → (v : ℕ) → phase_occurs v xs ≡ false → phase_occurs v vs ≡ false
+pub gathered_free : (xs ys zs vs : List Term) → zs ≡ ys → vs ≡ combined_terms [] 0 zs → IsPermutation xs ys → (v : ℕ) → phase_occurs v vs ≡ true → phase_occurs v xs ≡ true
 unfolding stands
-gathered_free xs ys zs vs ez ev p v h = ap (phase_occurs v) ev ∙ combined_free v [] 0 zs refl (ap (phase_occurs v) ez ∙ moved_occurs v xs ys p ∙ h)
+gathered_free xs ys zs vs ez ev p v h = from_one _ _ (λ n. combined_free v [] 0 zs refl (ap (phase_occurs v) ez ∙ moved_occurs v xs ys p ∙ n)) (ap (phase_occurs v) (sym ev) ∙ h)
 
 -- ---- what a binary search for m says of the coefficient; f is the list as it is searched, p as clauses see it
 pub found_at : (m : List ℕ) (p xs f : List Term) (i : ℕ) (t : Term) → xs ≡ p → f ≡ xs → IsPhasePoly xs → i < length f → t ≡ get_or xs i t → ((d : Term) → mono_cmp (get_or f i d).mono m ≡ Equal) → t.phase ≡ coefficient m p

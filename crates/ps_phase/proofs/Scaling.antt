@@ -5,7 +5,7 @@ use Rattle.ps_mono.specs.Sets.{holds, stands}
 use Rattle.ps_mono.specs.Truth.{times}
 use Rattle.ps_phase.specs.Phases.{phase_value, phase_occurs, TermBefore, IsPhasePoly}
 use Rattle.ps_phase.specs.Adding.{put_term, scaled_terms, terms_with}
-use Rattle.ps_phase.proofs.Adding.{M, put_value, put_before, put_form, put_free, put_append, cut, neither, no_or}
+use Rattle.ps_phase.proofs.Adding.{M, put_value, put_before, put_form, put_free, put_append, cut, neither, no_or, from_one}
 
 -- ---- scaled
 scale_step : (b : Bool) (by p q r : ℕ) → r % M ≡ (by * q) % M → (times b ((by * p) % M) + r) % M ≡ (by * (times b p + q)) % M
@@ -94,8 +94,8 @@ scale_form by xs f vs ef e s = subst IsPhasePoly (sym (e ∙ ap (scaled_terms by
 pub scale_value : (by : ℕ) (p xs f vs : List Term) → xs ≡ p → f ≡ xs → vs ≡ scaled_terms by f → (a : ℕ → Bool) → phase_value vs a % M ≡ (by * phase_value p a) % M
 scale_value by p xs f vs ep ef e a = ap (λ (u : List Term). phase_value u a % M) (e ∙ ap (scaled_terms by) (ef ∙ ep)) ∙ scaled_value by p a
 
-pub scale_free : (by : ℕ) (p xs f vs : List Term) → xs ≡ p → f ≡ xs → vs ≡ scaled_terms by f → (v : ℕ) → phase_occurs v p ≡ false → phase_occurs v vs ≡ false
-scale_free by p xs f vs ep ef e v h = ap (phase_occurs v) (e ∙ ap (scaled_terms by) (ef ∙ ep)) ∙ scaled_free v by p h
+pub scale_free : (by : ℕ) (p xs f vs : List Term) → xs ≡ p → f ≡ xs → vs ≡ scaled_terms by f → (v : ℕ) → phase_occurs v vs ≡ true → phase_occurs v p ≡ true
+scale_free by p xs f vs ep ef e v h = from_one _ _ (λ a. scaled_free v by p a) (ap (phase_occurs v) (sym (e ∙ ap (scaled_terms by) (ef ∙ ep))) ∙ h)
 
 pub select_form : (v : ℕ) (xs f vs : List Term) → f ≡ xs → vs ≡ terms_with v f → IsPhasePoly xs → IsPhasePoly vs
 select_form v xs f vs ef e s = subst IsPhasePoly (sym (e ∙ ap (terms_with v) ef)) (selected_form v xs s)

@@ -1,4 +1,4 @@
-ghost use Rattle.std.specs.Prelude.{◌≡◌, ℕ, ◌<◌, ◌%◌, ◌+◌, ◌*◌, ◌↔◌, Bool, false, IfOk, OnErr, IsTrue, [], length, slice_get};
+ghost use Rattle.std.specs.Prelude.{◌≡◌, ℕ, ◌<◌, ◌%◌, ◌+◌, ◌*◌, ◌↔◌, Bool, true, false, ◌||◌, IfOk, OnOk, OnErr, IsTrue, [], length, slice_get};
 ghost use Rattle.ps_phase.specs.Phases.{phase_value, phase_occurs, IsPhasePoly, coefficient, SameTurns};
 ghost use Rattle.ps_phase.specs.Adding.{terms_with};
 ghost use Rattle.ps_mono.specs.Sets.{stands};
@@ -45,7 +45,8 @@ impl PhasePoly {
     /// The same phase at each assignment. `AllocError` is want of memory.
     pub fn constant(alloc: Global, phase: Phase) -> Result<PhasePoly, AllocError>
         ensures value { IfOk result (λ p. (a : ℕ → Bool) → phase_value p a ≡ phase) }
-        ensures free { IfOk result (λ p. (v : ℕ) → phase_occurs v p ≡ false) }
+        ensures variables { IfOk result (λ p. (v : ℕ) → phase_occurs v p ≡ false) }
+        ensures form { IfOk result (λ p. IsPhasePoly p) }
     {
         let mut terms = Vec::new(alloc);
         push_term(&mut terms, &Mono::one(), phase)?;
@@ -56,7 +57,8 @@ impl PhasePoly {
     /// and those of one monomial added. `AllocError` is want of memory.
     pub fn gather(mut terms: Vec<Term>) -> Result<PhasePoly, AllocError>
         ensures value { IfOk result (λ p. SameTurns p terms.items) }
-        ensures free { IfOk result (λ p. (v : ℕ) → phase_occurs v terms.items ≡ false → phase_occurs v p ≡ false) }
+        ensures variables { IfOk result (λ p. (v : ℕ) → phase_occurs v p ≡ true → phase_occurs v terms.items ≡ true) }
+        ensures form { IfOk result (λ p. IsPhasePoly p) }
     {
         terms.sort_unstable_by(|x, y| x.mono.compare(&y.mono));
         let terms = combined(*terms.allocator(), &terms)?;
@@ -66,16 +68,30 @@ impl PhasePoly {
     /// Both together. `AllocError` is want of memory.
     pub fn add(&self, other: &PhasePoly) -> Result<PhasePoly, AllocError>
         ensures value { IfOk result (λ p. (a : ℕ → Bool) → phase_value p a % 4294967296 ≡ (phase_value self.now a + phase_value other.now a) % 4294967296) }
-        ensures free { IfOk result (λ p. (v : ℕ) → phase_occurs v self.now ≡ false → phase_occurs v other.now ≡ false → phase_occurs v p ≡ false) }
+        ensures variables { IfOk result (λ p. (v : ℕ) → phase_occurs v p ≡ true → (phase_occurs v self.now || phase_occurs v other.now) ≡ true) }
+        ensures form { IfOk result (λ p. IsPhasePoly p) }
     {
         let terms = added(*self.terms.allocator(), &self.terms, &other.terms)?;
         Ok(PhasePoly { terms })
     }
 
+    /// Adds the other one to this one. `AllocError` is want of memory, and leaves this one as it was.
+    pub fn add_to(&mut self, other: &PhasePoly) -> Result<(), AllocError>
+        ensures value { OnOk result ((a : ℕ → Bool) → phase_value self.new a % 4294967296 ≡ (phase_value self.old a + phase_value other.now a) % 4294967296) }
+        ensures variables { OnOk result ((v : ℕ) → phase_occurs v self.new ≡ true → (phase_occurs v self.old || phase_occurs v other.now) ≡ true) }
+        ensures form { IsPhasePoly self.new }
+        ensures kept { OnErr result (self.new ≡ self.old) }
+    {
+        let terms = added(*self.terms.allocator(), &self.terms, &other.terms)?;
+        self.terms = terms;
+        Ok(())
+    }
+
     /// What gives whole turns with this one. `AllocError` is want of memory.
     pub fn neg(&self) -> Result<PhasePoly, AllocError>
         ensures value { IfOk result (λ p. (a : ℕ → Bool) → (phase_value p a + phase_value self.now a) % 4294967296 ≡ 0) }
-        ensures free { IfOk result (λ p. (v : ℕ) → phase_occurs v self.now ≡ false → phase_occurs v p ≡ false) }
+        ensures variables { IfOk result (λ p. (v : ℕ) → phase_occurs v p ≡ true → phase_occurs v self.now ≡ true) }
+        ensures form { IfOk result (λ p. IsPhasePoly p) }
     {
         self.scale(u32::MAX)
     }
@@ -83,7 +99,8 @@ impl PhasePoly {
     /// So many times the phases. `AllocError` is want of memory.
     pub fn scale(&self, by: u32) -> Result<PhasePoly, AllocError>
         ensures value { IfOk result (λ p. (a : ℕ → Bool) → phase_value p a % 4294967296 ≡ (by * phase_value self.now a) % 4294967296) }
-        ensures free { IfOk result (λ p. (v : ℕ) → phase_occurs v self.now ≡ false → phase_occurs v p ≡ false) }
+        ensures variables { IfOk result (λ p. (v : ℕ) → phase_occurs v p ≡ true → phase_occurs v self.now ≡ true) }
+        ensures form { IfOk result (λ p. IsPhasePoly p) }
     {
         let terms = scaled(*self.terms.allocator(), &self.terms, by)?;
         Ok(PhasePoly { terms })
@@ -91,7 +108,8 @@ impl PhasePoly {
 
     /// The same terms. `AllocError` is want of memory.
     pub fn copy(&self) -> Result<PhasePoly, AllocError>
-        ensures { IfOk result (λ p. p ≡ self.now) }
+        ensures same { IfOk result (λ p. p ≡ self.now) }
+        ensures form { IfOk result (λ p. IsPhasePoly p) }
     {
         let terms = Vec::from_slice(*self.terms.allocator(), &self.terms)?;
         Ok(PhasePoly { terms })
@@ -100,7 +118,8 @@ impl PhasePoly {
     /// The terms that contain `v`, in order. `AllocError` is want of memory.
     pub fn terms_with(&self, v: u16) -> Result<PhasePoly, AllocError>
         requires { v < 512 }
-        ensures { IfOk result (λ p. p ≡ terms_with v self.now) }
+        ensures terms { IfOk result (λ p. p ≡ terms_with v self.now) }
+        ensures form { IfOk result (λ p. IsPhasePoly p) }
     {
         let terms = selected(*self.terms.allocator(), &self.terms, v)?;
         Ok(PhasePoly { terms })

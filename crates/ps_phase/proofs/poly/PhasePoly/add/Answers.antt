@@ -7,5 +7,8 @@ invariant_of-result c = sum_form _ _ _ _ _ c.deref.ensures.value c.deref-2.ensur
 pub returns-clause-value : goal.returns-clause-value
 returns-clause-value c = sum_value _ _ _ _ _ _ _ c.self.view_is c.other.view_is c.deref.ensures.value c.deref-2.ensures.value c.in_ok-terms.ensures
 
-pub returns-clause-free : goal.returns-clause-free
-returns-clause-free c = sum_free _ _ _ _ _ _ _ c.self.view_is c.other.view_is c.deref.ensures.value c.deref-2.ensures.value c.in_ok-terms.ensures
+pub returns-clause-variables : goal.returns-clause-variables
+returns-clause-variables c = sum_free _ _ _ _ _ _ _ c.self.view_is c.other.view_is c.deref.ensures.value c.deref-2.ensures.value c.in_ok-terms.ensures
+
+pub returns-clause-form : goal.returns-clause-form
+returns-clause-form c = sum_form _ _ _ _ _ c.deref.ensures.value c.deref-2.ensures.value c.in_ok-terms.ensures c.self.invariant c.other.invariant

@@ -7,5 +7,8 @@ invariant_of-result c = one_form _ _ _ _ c.one.ensures c.in_ok-push_term.ensures
 pub returns-clause-value : goal.returns-clause-value
 returns-clause-value c = constant_value _ _ _ _ c.one.ensures c.new-terms.ensures.items c.in_ok-push_term.ensures.items
 
-pub returns-clause-free : goal.returns-clause-free
-returns-clause-free c = constant_free _ _ _ _ c.one.ensures c.new-terms.ensures.items c.in_ok-push_term.ensures.items
+pub returns-clause-variables : goal.returns-clause-variables
+returns-clause-variables c = constant_free _ _ _ _ c.one.ensures c.new-terms.ensures.items c.in_ok-push_term.ensures.items
+
+pub returns-clause-form : goal.returns-clause-form
+returns-clause-form c = one_form _ _ _ _ c.one.ensures c.in_ok-push_term.ensures.small c.new-terms.ensures.items c.in_ok-push_term.ensures.items

@@ -14,5 +14,9 @@ invariant_of-result c = gathered_form _ _ _ c.deref.ensures.value c.in_ok-terms.
 pub returns-clause-value : goal.returns-clause-value
 returns-clause-value c = gathered_value _ _ _ _ c.deref.ensures.value c.in_ok-terms.ensures.items c.sort_unstable_by.ensures.permutation
 
-pub returns-clause-free : goal.returns-clause-free
-returns-clause-free c = gathered_free _ _ _ _ c.deref.ensures.value c.in_ok-terms.ensures.items c.sort_unstable_by.ensures.permutation
+pub returns-clause-variables : goal.returns-clause-variables
+returns-clause-variables c = gathered_free _ _ _ _ c.deref.ensures.value c.in_ok-terms.ensures.items c.sort_unstable_by.ensures.permutation
+
+pub returns-clause-form : goal.returns-clause-form
+returns-clause-form c = gathered_form _ _ _ c.deref.ensures.value c.in_ok-terms.ensures.items c.in_ok-terms.ensures.small
+    (c.sort_unstable_by.ensures.sorted falls (ranks_by mono_total (λ t. t.mono)) (always_returns_same _ _ _ (λ a r q k. search rules)))

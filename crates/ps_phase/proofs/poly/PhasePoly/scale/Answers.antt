@@ -7,5 +7,8 @@ invariant_of-result c = scale_form c.args.by _ _ _ c.deref.ensures.value c.in_ok
 pub returns-clause-value : goal.returns-clause-value
 returns-clause-value c = scale_value c.args.by _ _ _ _ c.self.view_is c.deref.ensures.value c.in_ok-terms.ensures
 
-pub returns-clause-free : goal.returns-clause-free
-returns-clause-free c = scale_free c.args.by _ _ _ _ c.self.view_is c.deref.ensures.value c.in_ok-terms.ensures
+pub returns-clause-variables : goal.returns-clause-variables
+returns-clause-variables c = scale_free c.args.by _ _ _ _ c.self.view_is c.deref.ensures.value c.in_ok-terms.ensures
+
+pub returns-clause-form : goal.returns-clause-form
+returns-clause-form c = scale_form c.args.by _ _ _ c.deref.ensures.value c.in_ok-terms.ensures c.self.invariant
