@@ -1,28 +1,13 @@
 -- What prims make of columns of numbers is columns of numbers.
-use Rattle.std.proofs.Common.{◌≡◌, refl, ap, ◌∙◌, arith, Bool, true, false, List, [], ◌∷◌, ◌*◌, set}
-use Rattle.std.proofs.Math.IntN.{ℤ, pos, ◌+ℤ◌, neg_ℤ}
+use Rattle.std.proofs.Common.{ap, ◌∙◌, arith, Bool, true, false, List, [], ◌∷◌, ◌*◌, set}
+use Rattle.std.proofs.Math.IntN.{ℤ, pos}
 use Rattle.std.proofs.lemmas.Int.{ints}
 use Rattle.ps_ring.specs.Numbers.{Number, IsNumber, one, when}
 use Rattle.ps_ring.proofs.Turned.{one_number, turned_number}
+use Rattle.ps_ring.proofs.Whens.{when-neg}
 use Rattle.ps_prim.specs.declared.prims.Prim.{Prim}
 use Rattle.ps_prim.specs.declared.prims.Prim.TheVariants.{U, Cx}
 use Rattle.ps_prim.specs.Amplitudes.{Truths, Column, bit, same_bits, first_phase, second_phase, entry, exchanged, act, run, start, amplitude}
-
-pub when-neg : (b : Bool) (v : ℤ) → when b (neg_ℤ v) ≡ neg_ℤ (when b v)
-unfolding when
-when-neg true v = refl
-when-neg false v = refl
-
-pub when-add : (b : Bool) (v w : ℤ) → when b (v +ℤ w) ≡ when b v +ℤ when b w
-unfolding when
-when-add true v w = refl
-when-add false v w = refl
-
--- only what stands where b is true matters
-pub when_equal : (b : Bool) (v w : ℤ) → (b ≡ true → v ≡ w) → when b v ≡ when b w
-unfolding when
-when_equal true v w h = h refl
-when_equal false v w h = refl
 
 pub entry_number : (t f l : ℤ) (a b : Bool) (c : Number) → IsNumber c → IsNumber (entry t f l a b c)
 unfolding entry

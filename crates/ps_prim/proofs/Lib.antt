@@ -2,3 +2,12 @@ pub mod Appended
 pub mod Bits
 pub mod Columns
 pub mod Plains
+pub mod Runs
+pub mod PlainSums
+pub mod Joins
+pub mod Leaves
+pub mod Unitary
+pub mod Equal
+pub mod Different
+pub mod Deciding
+pub mod Overlaps

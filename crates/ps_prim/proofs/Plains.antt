@@ -6,6 +6,7 @@ use Rattle.std.proofs.lemmas.List.{set-get_or}
 use Rattle.ps_ring.specs.Numbers.{Number, IsNumber, one, when}
 use Rattle.ps_ring.proofs.Products.{mul_assoc_z, mul_cancel}
 use Rattle.ps_ring.proofs.Turned.{one_number, turned_same}
+use Rattle.ps_ring.proofs.Whens.{when_equal, when-true, when-false}
 use Rattle.ps_ring.proofs.Roots.{twice_power}
 use Rattle.ps_ring.proofs.Ones.{one_first, phases_meet}
 use Rattle.ps_prim.specs.declared.prims.Prim.{Prim}
@@ -14,7 +15,7 @@ use Rattle.ps_prim.specs.Amplitudes.{Truths, Column, bit, same_bits, first_phase
 use Rattle.ps_prim.specs.Plain.{IsPlain, PlainEmpty, PlainCx, PlainTurn, PlainSame, PlainOutputDiffers, PlainPhaseDiffers}
 use Rattle.ps_prim.proofs.Appended.{amplitude-last, turns-append}
 use Rattle.ps_prim.proofs.Bits.{same_bits-refl, same_bits-true, same_bits-false, length-exchanged, same_bits-exchanged}
-use Rattle.ps_prim.proofs.Columns.{when_equal, amplitude_number}
+use Rattle.ps_prim.proofs.Columns.{amplitude_number}
 
 one_times : (k : ℤ) → k ≡ pos 1 *ℤ k
 one_times k = omega (arith, ints)
@@ -100,19 +101,11 @@ pub plain_same : PlainSame
 plain_same n A B f g P Q h k e d x lx z lz j =
     ap (λ r. pos (2 ^ turns B) *ℤ r) ((plain_equal n A f g P Q h e d).value x z lx j) ∙ crossed (2 ^ turns A) (2 ^ turns B) _ ∙ ap (λ r. pos (2 ^ turns A) *ℤ r) (sym (k.value x z lx j))
 
-when_true : (v : ℤ) → when true v ≡ v
-unfolding when
-when_true v = refl
-
-when_false : (v : ℤ) → when false v ≡ pos 0
-unfolding when
-when_false v = refl
-
 -- the amplitude at the output itself, as far as it is turned
 at_own : (n : ℕ) (A : List Prim) (f : Truths → Truths) (P : Truths → ℕ) → IsPlain n A f P → (x : Truths) → length x ≡ n → amplitude A x (f x) (pos (P x)) ≡ pos (2 ^ turns A) *ℤ pos 1
 at_own n A f P h x lx =
     h.value x (f x) lx (pos (P x)) ∙ ap (λ b. pos (2 ^ turns A) *ℤ when b (one (pos (P x) -ℤ pos (P x)))) (same_bits-refl (f x))
-    ∙ ap (λ r. pos (2 ^ turns A) *ℤ r) (when_true _ ∙ ap one (omega (arith, ints)) ∙ one_first)
+    ∙ ap (λ r. pos (2 ^ turns A) *ℤ r) (when-true _ ∙ ap one (omega (arith, ints)) ∙ one_first)
 
 no_zero : (a b : ℕ) → 0 < a → 0 < b → pos b *ℤ (pos a *ℤ pos 1) ≢ pos 0
 no_zero (suc a) (suc b) h k e = omega (arith, ints)
@@ -127,7 +120,7 @@ plain_output_differs n A B f g P Q h k x lx d = (
     pos (P x),
     λ e. no_zero (2 ^ turns A) (2 ^ turns B) (pow_pos (turns A)) (pow_pos (turns B))
         (ap (λ r. pos (2 ^ turns B) *ℤ r) (sym (at_own n A f P h x lx)) ∙ e
-        ∙ ap (λ r. pos (2 ^ turns A) *ℤ r) (k.value x (f x) lx (pos (P x)) ∙ ap (λ b. pos (2 ^ turns B) *ℤ when b (one (pos (P x) -ℤ pos (Q x)))) (same_bits-false (g x) (f x) (λ s. d (sym s))) ∙ ap (λ r. pos (2 ^ turns B) *ℤ r) (when_false _) ∙ *ℤ-zero (pos (2 ^ turns B))) ∙ *ℤ-zero (pos (2 ^ turns A))),
+        ∙ ap (λ r. pos (2 ^ turns A) *ℤ r) (k.value x (f x) lx (pos (P x)) ∙ ap (λ b. pos (2 ^ turns B) *ℤ when b (one (pos (P x) -ℤ pos (Q x)))) (same_bits-false (g x) (f x) (λ s. d (sym s))) ∙ ap (λ r. pos (2 ^ turns B) *ℤ r) (when-false _) ∙ *ℤ-zero (pos (2 ^ turns B))) ∙ *ℤ-zero (pos (2 ^ turns A))),
   ),
 )
 
@@ -141,7 +134,7 @@ plain_phase_differs n A B f g P Q h k x lx s d = (
         let r : pos (2 ^ turns A) *ℤ (pos (2 ^ turns B) *ℤ pos 1) ≡ pos (2 ^ turns A) *ℤ (pos (2 ^ turns B) *ℤ one (pos (P x) -ℤ pos (Q x)))
         = crossed (2 ^ turns B) (2 ^ turns A) (pos 1) ∙ ap (λ r. pos (2 ^ turns B) *ℤ r) (sym (at_own n A f P h x lx)) ∙ e
         ∙ ap (λ r. pos (2 ^ turns A) *ℤ r) (k.value x (f x) lx (pos (P x)) ∙ ap (λ y. pos (2 ^ turns B) *ℤ when (same_bits y (f x)) (one (pos (P x) -ℤ pos (Q x)))) (sym s)
-        ∙ ap (λ b. pos (2 ^ turns B) *ℤ when b (one (pos (P x) -ℤ pos (Q x)))) (same_bits-refl (f x)) ∙ ap (λ r. pos (2 ^ turns B) *ℤ r) (when_true _)) in
+        ∙ ap (λ b. pos (2 ^ turns B) *ℤ when b (one (pos (P x) -ℤ pos (Q x)))) (same_bits-refl (f x)) ∙ ap (λ r. pos (2 ^ turns B) *ℤ r) (when-true _)) in
         d (phases_meet (P x) (Q x) (sym (mul_cancel (2 ^ turns B) _ _ (pow_pos (turns B)) (mul_cancel (2 ^ turns A) _ _ (pow_pos (turns A)) r)))),
   ),
 )

@@ -1,5 +1,5 @@
 -- What a list of primitive gates does to a basis input: an amplitude for each output.
-use Rattle.std.specs.Prelude.{ℕ, ◌+◌, ◌*◌, Bool, true, false, not, List, [], ◌∷◌, get_or, set}
+use Rattle.std.specs.Prelude.{ℕ, ◌+◌, ◌*◌, Bool, true, false, not, List, [], ◌∷◌, set}
 use Rattle.std.proofs.Math.IntN.{ℤ, pos, ◌+ℤ◌, ◌-ℤ◌, neg_ℤ}
 use Rattle.ps_ring.specs.Numbers.{Number, one, when}
 pub use Rattle.ps_ring.specs.Truths.{Truths, bit}

@@ -1,3 +1,7 @@
 pub mod Amplitudes
 pub mod Maps
 pub mod Plain
+pub mod Sums
+pub mod SumLaws
+pub mod Columns
+pub mod Overlaps

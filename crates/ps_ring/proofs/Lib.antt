@@ -7,3 +7,7 @@ pub mod Windows
 pub mod Inners
 pub mod Squares
 pub mod Divisors
+pub mod Whens
+pub mod Totals
+pub mod Inserts
+pub mod StepLaws

@@ -80,3 +80,10 @@ pub turned_to : (c : Number) → IsNumber c → (p q w : ℕ) (r : ℤ) → p % 
 turned_to c h p q w r e f j =
     let a : j -ℤ pos q ≡ j -ℤ r -ℤ pos (w * 4294967296) = omega (arith, ints) in
     turned_same c h p q e j ∙ ap c a ∙ whole c h w (j -ℤ r)
+
+-- the same where it is p and t that add up
+pub turned_by : (c : Number) → IsNumber c → (p t q w : ℕ) (r : ℤ) → (p + t) % 4294967296 ≡ q % 4294967296 → pos q ≡ r +ℤ pos t +ℤ pos (w * 4294967296) → (j : ℤ) → c (j -ℤ pos p) ≡ c (j -ℤ r)
+turned_by c h p t q w r e f j =
+    let a : j -ℤ pos p ≡ j +ℤ pos t -ℤ pos (p + t) = omega (arith, ints) in
+    let b : j +ℤ pos t -ℤ (r +ℤ pos t) ≡ j -ℤ r = omega (arith, ints) in
+    ap c a ∙ turned_to c h (p + t) q w (r +ℤ pos t) e f (j +ℤ pos t) ∙ ap c b

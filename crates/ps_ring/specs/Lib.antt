@@ -3,3 +3,5 @@ pub mod Truths
 pub mod Inner
 pub mod NumberLaws
 pub mod InnerLaws
+pub mod Sums
+pub mod Steps

@@ -1,6 +1,7 @@
 //! The laws of numbers. Each function does nothing, and its clauses are laws with their proofs.
 
 ghost use Rattle.ps_ring.specs.NumberLaws.{OneIsNumber, RootTwice, RootEven, RootOdd, SameReflexive, SameSymmetric, SameTransitive, SameByPowers, SamePowers, SumOfEqual, SumOfHalfTurn, SumOfQuarterTurn};
+ghost use Rattle.ps_ring.specs.Steps.{ElimKeeps, HhKeeps, OmegaKeeps};
 ghost use Rattle.ps_ring.specs.InnerLaws.{InnerIsNumber, InnerAddsLeft, InnerAddsRight, InnerTurnedBoth, InnerTurnedRight, InnerRootLeft, InnerRootRight, InnerOfOne, InnerSelf, InnerNone};
 
 /// The number 1, and the powers of the root of 2 in closed form.
@@ -39,4 +40,11 @@ pub fn inner_law()
     ensures of_one { InnerOfOne }
     ensures own { InnerSelf }
     ensures none { InnerNone }
+{}
+
+/// Each rewrite step keeps the number of a path sum at every input and output.
+pub fn step_law()
+    ensures eliminates { ElimKeeps }
+    ensures hh { HhKeeps }
+    ensures omega { OmegaKeeps }
 {}

@@ -1,5 +1,5 @@
 use Rattle.ps_prim.proofs.Plains.{plain_empty, plain_cx, plain_turn, plain_same, plain_output_differs, plain_phase_differs}
-use Rattle.ps_prim.proofs.plain_law.Goals as goal
+use Rattle.ps_prim.proofs.laws.plain_law.Goals as goal
 
 pub returns : goal.returns
 returns c = record {
