@@ -1,5 +1,5 @@
 -- Sources and sinks over memory.
-use Rattle.std.specs.Prelude.{ℕ, ◌-◌, Bool, List, ◌++◌, length, take, drop, nat_eq, nat_lt, ◌&&◌, if◌then◌else◌}
+use Rattle.std.specs.Prelude.{ℕ, ◌-◌, List, ◌++◌, length, take, drop, nat_eq, nat_lt, ◌&&◌, if◌then◌else◌}
 use Rattle.ps_io.specs.Counts.{one_more}
 
 -- A source over memory: the bytes that are still to be given, and the greatest number of them that one read gives;
