@@ -4,15 +4,27 @@
 #![tactic(auto)]
 
 pub mod gate;
+mod listing;
+pub mod memory_sink;
+pub mod memory_source;
 pub mod reading;
 pub mod sink;
 pub mod source;
+pub mod std_sink;
+pub mod std_source;
 pub mod stop;
 pub mod writing;
 
 pub use gate::{Gate, OpenGate, Point};
+pub use memory_sink::MemorySink;
+pub use memory_source::MemorySource;
 pub use reading::{ReadEnd, read_all};
 pub use sink::Sink;
 pub use source::{Failed, Source};
+pub use std_sink::StdSink;
+pub use std_source::StdSource;
 pub use stop::{NeverStop, Stop};
 pub use writing::write_all;
+
+#[cfg(test)]
+mod tests;

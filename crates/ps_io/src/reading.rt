@@ -34,6 +34,7 @@ fn zeros(alloc: Global, len: usize) -> Result<Vec<u8>, AllocError>
 /// - `Memory` may come at any time.
 pub fn read_all<S: Source>(alloc: Global, source: &mut S, limit: u32) -> Result<Vec<u8>, ReadEnd>
     ensures whole { IfOk result (λ v. S.remaining source.old ≡ prepend_known v.items (S.remaining source.new)) }
+    ensures told { IfOk result (λ v. IfSome (S.remaining source.old) (λ left. v.items ≡ left)) }
     ensures ended { OnOk result (IsAtEnd (S.remaining source.new)) }
     ensures within { IfOk result (λ v. vec_len v ≤ limit) }
     ensures too_long { IsErrOf result ReadEnd.TooLong → IfSome (S.remaining source.old) (λ left. limit < length left) }
