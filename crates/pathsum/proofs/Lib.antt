@@ -1,0 +1,4 @@
+mod PlainNumbers
+mod PlainAngles
+mod PlainLines
+mod PlainPairs

@@ -1,0 +1,6 @@
+//! Compares two quantum circuits.
+#![tactic(auto)]
+
+mod plain;
+
+fn main() {}
