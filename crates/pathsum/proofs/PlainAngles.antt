@@ -7,7 +7,7 @@ use Rattle.std.specs.Option.{MatchOption}
 use Rattle.std.proofs.Common.{Option, Some, None, get_or}
 use Rattle.std.proofs.lemmas.List.{append_cancel_left}
 use Rattle.std.proofs.lemmas.Bool.Decides.{nat_tests}
-use Rattle.pathsum.specs.Plain.{is_digit, IsNumeral, value_from, SpellsNumber, SpellsTimes, once, times, SpellsOver, whole, over, SpellsMultiple, SpellsAngle, none, plus, minus}
+use Rattle.pathsum.specs.Plain.{is_digit, IsNumeral, value_from, SpellsNumber, SpellsTimes, once, times, SpellsOver, whole, over, SpellsAngle, none, plus, minus}
 use Rattle.pathsum.specs.Readings.{Exactly, Nowhere, Before, SpellsBelow, IsStop, EndsAngle, SpellsReduced}
 
 -- three pieces one after the other

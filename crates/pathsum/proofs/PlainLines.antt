@@ -1,11 +1,11 @@
 -- Lines, one and many.
-use Rattle.std.proofs.Common.{◌≡◌, ◌≢◌, ℕ, ◌+◌, ◌<◌, ◌≤◌, arith, true, false, List, [], ◌∷◌, ◌++◌, length, refl, sym, ap, ◌∙◌, append_assoc, append-nil, length-append, subst, Option, Some, None, get_or}
+use Rattle.std.proofs.Common.{◌≡◌, ◌≢◌, ℕ, ◌≤◌, arith, List, [], ◌∷◌, ◌++◌, length, refl, sym, ap, ◌∙◌, append_assoc, append-nil, length-append, subst, Option, Some, None, get_or}
 use Rattle.std.specs.Prelude.{codes}
 use Rattle.std.specs.Option.{MatchOption}
 use Rattle.std.proofs.lemmas.List.{append_cancel_left}
 use Rattle.ps_prim.specs.declared.prims.Prim.{Prim}
 use Rattle.ps_prim.specs.declared.prims.Prim.TheVariants.{U, Cx}
-use Rattle.pathsum.specs.Plain.{is_digit, SpellsNumber, SpellsAngle, SpellsFlip, SpellsTurn, SpellsLine, SpellsLines}
+use Rattle.pathsum.specs.Plain.{SpellsAngle, SpellsFlip, SpellsTurn, SpellsLine, SpellsLines}
 use Rattle.pathsum.specs.Readings.{Exactly, Nowhere, Before, SpellsBelow, SpellsCx, SpellsU, NoLine, ReadsLines}
 
 assoc_flip : (p a e b f r : List ℕ) → p ++ a ++ e ++ b ++ f ++ r ≡ p ++ ((a ++ e) ++ ((b ++ f) ++ r))
@@ -305,3 +305,8 @@ part_full n bytes rest gs p few = record {
   few = omega arith;
   only = λ hs front back l f k e. (let o = p.next hs front back f k e in full n rest back gs hs (omega arith) o.more o.text o.prims o.spells o.parted);
 }
+
+pub turn_as : (n : ℕ) (s rest : List ℕ) (theta phi lambda v k q : ℕ) → theta ≡ 0 → phi ≡ v → lambda ≡ k → Exactly (SpellsU n) s (U 0 v k q) rest → Exactly (SpellsU n) s (U theta phi lambda q) rest
+turn_as n s rest theta phi lambda v k q a b d x =
+    let e : U 0 v k q ≡ U theta phi lambda q = ap (λ i. U i v k q) (sym a) ∙ ap (λ i. U theta i k q) (sym b) ∙ ap (λ i. U theta phi i q) (sym d) in
+    subst (λ g. Exactly (SpellsU n) s g rest) e x

@@ -1,11 +1,9 @@
 -- Numbers with the piece behind them.
 use Rattle.std.proofs.Common.{◌≡◌, ◌≢◌, ℕ, ◌+◌, ◌-◌, ◌*◌, ◌<◌, ◌≤◌, arith, true, false, Bool, ◌&&◌, List, [], ◌∷◌, ◌++◌, refl, sym, ap, ◌∙◌, Option, Some, None, append_assoc, subst, drop, length, get_or, add-one, drop-cons, ◌⊎◌, inl, inr}
 use Rattle.std.proofs.lemmas.Option.{same_Some}
-use Rattle.std.specs.List.{list_all}
 use Rattle.std.proofs.lemmas.List.{append_cancel_left, drop_all}
-use Rattle.std.proofs.lemmas.Grind.{common_steps}
 use Rattle.std.proofs.lemmas.Bool.Decides.{nat_tests}
-use Rattle.pathsum.specs.Plain.{is_digit, IsNumeral, value_from, SpellsNumber}
+use Rattle.pathsum.specs.Plain.{is_digit, IsNumeral, value_from}
 use Rattle.pathsum.specs.Readings.{Exactly, Nowhere, Before, SpellsBelow, IsStop, IsTail, value_on, next_value, Tail, OneTail, NoTail}
 
 pub value_from-le : (v : ℕ) (ds : List ℕ) → v ≤ value_from v ds

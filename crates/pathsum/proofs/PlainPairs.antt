@@ -1,13 +1,14 @@
 -- Whole pairs.
-use Rattle.std.proofs.Common.{◌≡◌, ◌≢◌, ℕ, ◌+◌, ◌<◌, ◌≤◌, arith, true, false, List, [], ◌∷◌, ◌++◌, length, refl, sym, ap, ◌∙◌, append_assoc, append-nil, subst, Option, Some, None, get_or}
-use Rattle.std.specs.Prelude.{codes}
+use Rattle.std.proofs.Common.{◌≡◌, ◌≢◌, ℕ, ◌<◌, ◌≤◌, arith, true, false, List, [], ◌∷◌, ◌++◌, length, refl, sym, ap, ◌∙◌, append_assoc, append-nil, subst, Option, Some, None, get_or}
+use Rattle.std.specs.Prelude.{codes, Bool, ◌==◌}
 use Rattle.std.specs.Option.{MatchOption}
+use Rattle.std.proofs.lemmas.Bool.Decides.{Decides-eqb}
 use Rattle.std.proofs.lemmas.List.{append_cancel_left}
 use Rattle.ps_prim.specs.declared.prims.Prim.{Prim}
 use Rattle.ps_prim.specs.declared.prims.Prim.TheVariants.{U, Cx}
 use Rattle.ps_prim.specs.Maps.{AllWithin}
-use Rattle.pathsum.specs.Plain.{SpellsNumber, SpellsLine, SpellsLines, SpellsText, SpellsPair, IsSeparator, plain, returned, AllPlain, IsOnePair, IsNoPair, IsFit}
-use Rattle.pathsum.specs.Readings.{Exactly, Nowhere, Before, SpellsBelow, NoLine, ReadsLines, SpellsHead, SpellsMiddle}
+use Rattle.pathsum.specs.Plain.{SpellsLines, SpellsText, SpellsPair, IsSeparator, plain, returned, AllPlain, IsOnePair, IsNoPair, IsFit}
+use Rattle.pathsum.specs.Readings.{Exactly, Nowhere, Before, SpellsBelow, ReadsLines, SpellsHead, SpellsMiddle}
 use Rattle.pathsum.proofs.PlainLines.{no_line_end, no_line_equals}
 
 -- the first two lines
@@ -71,7 +72,7 @@ pub middle_none : (s : List ℕ) → ((r : List ℕ) → s ≢ codes "====\n" ++
 middle_none s h k n front back m e = elim (middle_ways s back front n m e) [ plain_way g f p ↦ h (g ++ back) p | returned_way g f p ↦ k (g ++ back) p ]
 
 pub middle_plain : {X : Type 0} (value : X → ℕ) (rest : X → List ℕ) (s t : List ℕ) (r : Option X) → s ≡ codes "====\n" ++ t → MatchOption r (Nowhere SpellsHead t) (λ x. Exactly SpellsHead t (value x) (rest x)) → MatchOption r (Nowhere SpellsMiddle s) (λ x. Exactly SpellsMiddle s (value x) (rest x))
-middle_plain value rest s t None e h n front back m p = elim (middle_ways s back front n m p) [
+middle_plain value rest s t None e h = λ n front back m p. elim (middle_ways s back front n m p) [
   | plain_way g f q ↦ h n g back f (append_cancel_left (codes "====\n") t (g ++ back) (sym e ∙ q))
   | returned_way g f q ↦ differ t (g ++ back) (sym e ∙ q)
 ]
@@ -86,7 +87,7 @@ middle_plain value rest s t (Some x) e h = record {
 }
 
 pub middle_returned : {X : Type 0} (value : X → ℕ) (rest : X → List ℕ) (s t : List ℕ) (r : Option X) → s ≡ codes "====\r\n" ++ t → MatchOption r (Nowhere SpellsHead t) (λ x. Exactly SpellsHead t (value x) (rest x)) → MatchOption r (Nowhere SpellsMiddle s) (λ x. Exactly SpellsMiddle s (value x) (rest x))
-middle_returned value rest s t None e h n front back m p = elim (middle_ways s back front n m p) [
+middle_returned value rest s t None e h = λ n front back m p. elim (middle_ways s back front n m p) [
   | plain_way g f q ↦ differ (g ++ back) t (sym q ∙ e)
   | returned_way g f q ↦ h n g back f (append_cancel_left (codes "====\r\n") t (g ++ back) (sym e ∙ q))
 ]
@@ -239,3 +240,10 @@ pair_fits bytes n A B p = record {
   first_plain = lines_plain n p.first_text.lines A p.first_text.each;
   second_plain = lines_plain n p.second_text.lines B p.second_text.each;
 }
+
+pub empty_is : (v : List ℕ) (b : Bool) → b ≡ (length v == 0) → b ≡ true → v ≡ []
+empty_is [] b e h = refl
+empty_is (x ∷ v) b e h = let k : length (x ∷ v) ≡ 0 = (Decides-eqb (length (x ∷ v)) 0).0 (sym e ∙ h) in absurd (omega arith)
+
+pub empty_not : (v : List ℕ) (b : Bool) → b ≡ (length v == 0) → b ≡ false → v ≡ [] → ⊥
+empty_not v b e h z = let k : (length {A = ℕ} [] == 0) ≡ false = ap (λ l. length l == 0) (sym z) ∙ sym e ∙ h in absurd (cc)

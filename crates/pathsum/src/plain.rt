@@ -290,3 +290,134 @@ pub fn read_pair(alloc: Global, bytes: &[u8]) -> Result<Option<PlainPair>, Alloc
         second,
     }))
 }
+
+#[cfg(test)]
+mod tests {
+    use super::*;
+    use std::test::Fail;
+
+    // The two texts of a pair on three qubits with these lines, and what stands between them.
+    fn pair(alloc: Global, first: &str, between: &str, second: &str) -> Result<String, AllocError> {
+        format!(in alloc;
+            "OPENQASM 2.0;\nqreg q[3];\n{first}{between}OPENQASM 2.0;\nqreg q[3];\n{second}"
+        )
+    }
+
+    fn is_pair(alloc: Global, bytes: &[u8]) -> Result<bool, AllocError> {
+        Ok(read_pair(alloc, bytes)?.is_some())
+    }
+
+    // Whether each of these is the lines of a text on three qubits, or none of them is.
+    fn lines_are(alloc: Global, lines: &[&str], expected: bool) -> Result<bool, AllocError> {
+        for line in lines {
+            let bytes = pair(alloc, line, "====\n", "")?;
+            if is_pair(alloc, bytes.as_bytes())? != expected {
+                return Ok(false);
+            }
+        }
+        Ok(true)
+    }
+
+    #[test]
+    fn lines(rt: HostRuntime) -> Result<(), Fail> {
+        let read = [
+            "",
+            "CX q[0],q[2];\n",
+            "U(0,0,0) q[2];\n",
+            "U(0,pi,-pi) q[0];\n",
+            "U(0,3*pi/4,-999999999*pi/1073741824) q[1];\nCX q[1],q[0];\n",
+            "U(0,pi/1,1*pi) q[1];\n",
+        ];
+        assert!(rt; lines_are(rt.alloc(), &read, true)?);
+        let refused = [
+            "\n",
+            "h q[0];\n",
+            "CX q[0],q[2];",
+            "CX q[0],q[2];\r\n",
+            "CX q[0], q[2];\n",
+            "CX q[0],q[3];\n",
+            "CX q[1],q[1];\n",
+            "CX q[00],q[1];\n",
+            "CX q[],q[1];\n",
+            "CX q[4294967296],q[1];\n",
+            "U(pi,0,0) q[0];\n",
+            "U(0,00,0) q[0];\n",
+            "U(0,-0,0) q[0];\n",
+            "U(0,0*pi,0) q[0];\n",
+            "U(0,01*pi,0) q[0];\n",
+            "U(0,1000000000*pi,0) q[0];\n",
+            "U(0,pi/0,0) q[0];\n",
+            "U(0,pi/3,0) q[0];\n",
+            "U(0,pi/2147483648,0) q[0];\n",
+            "U(0,--pi,0) q[0];\n",
+            "U(0,pi*2,0) q[0];\n",
+            "U(0,0,0) q[0]; // no comment\n",
+        ];
+        assert!(rt; lines_are(rt.alloc(), &refused, false)?);
+        Ok(())
+    }
+
+    fn is_separator(alloc: Global, between: &str) -> Result<bool, AllocError> {
+        let text = "CX q[0],q[1];\n";
+        is_pair(alloc, pair(alloc, text, between, text)?.as_bytes())
+    }
+
+    fn is_size(alloc: Global, first: &str, second: &str) -> Result<bool, AllocError> {
+        let bytes = format!(in alloc;
+            "OPENQASM 2.0;\nqreg q[{first}];\n====\nOPENQASM 2.0;\nqreg q[{second}];\n"
+        )?;
+        is_pair(alloc, bytes.as_bytes())
+    }
+
+    #[test]
+    fn separators(rt: HostRuntime) -> Result<(), Fail> {
+        assert!(rt; is_separator(rt.alloc(), "====\n")?);
+        assert!(rt; is_separator(rt.alloc(), "====\r\n")?);
+        assert!(rt; !is_separator(rt.alloc(), "")?);
+        assert!(rt; !is_separator(rt.alloc(), "=====\n")?);
+        assert!(rt; !is_separator(rt.alloc(), "====\r")?);
+        assert!(rt; !is_separator(rt.alloc(), "\n====\n")?);
+        Ok(())
+    }
+
+    #[test]
+    fn sizes(rt: HostRuntime) -> Result<(), Fail> {
+        assert!(rt; is_size(rt.alloc(), "1", "1")?);
+        assert!(rt; is_size(rt.alloc(), "64", "64")?);
+        assert!(rt; !is_size(rt.alloc(), "0", "0")?);
+        assert!(rt; !is_size(rt.alloc(), "65", "65")?);
+        assert!(rt; !is_size(rt.alloc(), "1", "2")?);
+        assert!(rt; !is_size(rt.alloc(), "01", "01")?);
+        Ok(())
+    }
+
+    // pi / 2^30 is one unit, and 4 pi is 2^32 of them.
+    #[test]
+    fn units(rt: HostRuntime) -> Result<(), Fail> {
+        let alloc = rt.alloc();
+        let line = "U(0,-3*pi/4,5*pi) q[1];\nCX q[2],q[0];\n";
+        let read = read_pair(alloc, pair(alloc, line, "====\n", "")?.as_bytes())?.ok_or("no pair")?;
+        assert_eq!(rt; read.qubits, 3);
+        assert_eq!(rt; read.first.len(), 2);
+        assert_eq!(rt; read.second.len(), 0);
+        match read.first[0] {
+            Prim::U {
+                theta,
+                phi,
+                lambda,
+                q,
+            } => {
+                assert_eq!(rt; theta.units(), 0);
+                assert_eq!(rt; phi.units(), 3_489_660_928);
+                assert_eq!(rt; lambda.units(), 1_073_741_824);
+                assert_eq!(rt; q, 1);
+            }
+            Prim::Cx { .. } => assert!(rt; false),
+        }
+        match read.first[1] {
+            Prim::U { .. } => assert!(rt; false),
+            Prim::Cx { c, t } => assert_eq!(rt; (c, t), (2, 0)),
+        }
+        Ok(())
+    }
+}

@@ -1,4 +1,3 @@
-use Rattle.std.proofs.Common.{◌∙◌, sym}
 use Rattle.pathsum.specs.declared.plain.Found.{Found}
 use Rattle.pathsum.proofs.PlainAngles.{angle_zero_none, angle_zero, angle_minus_none, angle_minus, angle_unsigned, negated}
 use Rattle.pathsum.proofs.plain.angle.Goals as goal

@@ -1,7 +1,6 @@
-use Rattle.std.proofs.Common.{◌≡◌, ◌<◌, length, arith, true, false, sym, ◌∙◌, ap, length-drop, get_or, refl, Some}
+use Rattle.std.proofs.Common.{arith, sym, ◌∙◌, length-drop}
 use Rattle.std.proofs.lemmas.List.{take_all}
 use Rattle.std.proofs.lemmas.Option.{same_Some}
-use Rattle.pathsum.specs.Plain.{is_digit}
 use Rattle.pathsum.proofs.PlainNumbers.{seen_none, seen_some, seen_bad, seen_all, here_more, whole_more}
 use Rattle.pathsum.proofs.plain.digits.Goals as goal
 

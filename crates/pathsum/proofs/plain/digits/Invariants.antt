@@ -1,4 +1,4 @@
-use Rattle.std.proofs.Common.{◌≡◌, ℕ, ◌<◌, List, drop, Option, Some, None}
+use Rattle.std.proofs.Common.{◌≡◌, ℕ, ◌<◌, List, drop, Some, None}
 use Rattle.pathsum.specs.Readings.{Tail}
 use Rattle.pathsum.proofs.plain.digits.Given as goal
 

@@ -1,5 +1,4 @@
 use Rattle.std.proofs.Common.{◌∙◌, sym}
-use Rattle.pathsum.proofs.PlainNumbers.{number_none}
 use Rattle.pathsum.proofs.PlainAngles.{over_bad, over_odd, over_by, over_bare, over_none, stops_angle}
 use Rattle.pathsum.proofs.plain.divisor.Goals as goal
 

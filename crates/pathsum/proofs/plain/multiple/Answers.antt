@@ -1,4 +1,4 @@
-use Rattle.std.proofs.Common.{◌∙◌, sym, ◌<◌, ◌≤◌, arith, ap, ◌*◌, ◌/◌, ◌%◌, ◌≡◌, ℕ}
+use Rattle.std.proofs.Common.{◌∙◌, arith, ap, ◌*◌, ◌/◌, ◌%◌}
 use Rattle.pathsum.proofs.PlainAngles.{multiple_none, multiple_undivided, multiple_read, times_few, over_positive}
 use Rattle.pathsum.proofs.plain.multiple.Goals as goal
 
