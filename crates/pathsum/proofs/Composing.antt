@@ -1,7 +1,7 @@
 -- One more prim behind a composed list.
 use Rattle.std.proofs.Common.{◌≡◌, ◌≢◌, ℕ, zero, suc, ◌+◌, ◌*◌, ◌%◌, refl, ap, ap₂, sym, ◌∙◌, subst, arith, ◌<◌, ◌≤◌, Bool, true, false, not, ◌&&◌, ◌||◌, cond, nat_eq, List, [], ◌∷◌, ◌++◌, length, get_or, set, take, ◌⊎◌, inl, inr}
 use Rattle.std.proofs.lemmas.Bool.{cases_eq}
-use Rattle.std.proofs.lemmas.List.{get_or-set_same, get_or-set_other, length-set, take_all, take_more}
+use Rattle.std.proofs.lemmas.List.{get_or-set_same, get_or-set_other, length-set, take_all, take_more, get_or_default}
 use Rattle.std.proofs.lemmas.Bool.{cases_lt}
 use Rattle.std.proofs.Math.ListN.{get_or-append}
 use Rattle.std.proofs.Math.Seq.{get_or-append_seam}
@@ -16,9 +16,9 @@ use Rattle.ps_prim.specs.declared.prims.Prim.{Prim}
 use Rattle.ps_prim.specs.declared.prims.Prim.TheVariants.{U, Cx}
 use Rattle.ps_prim.specs.Amplitudes.{Truths, bit, exchanged, flipped}
 use Rattle.ps_prim.proofs.Bits.{length-exchanged}
-use Rattle.pathsum.specs.Composed.{outputs_of, turn_of, IsPolyOf, IsPhaseOf, IsComposed, Exchanged}
+use Rattle.pathsum.specs.Composed.{outputs_of, turn_of, IsPolyOf, IsPhaseOf, IsComposed, Exchanged, IsPlainPrim}
 use Rattle.ps_prim.specs.Maps.{IsWithin, AllWithin}
-use Rattle.pathsum.specs.Plain.{AllPlain, IsPlainPrim}
+use Rattle.pathsum.specs.Plain.{AllPlain}
 
 pub outputs-append : (A B : List Prim) (x : Truths) → outputs_of (A ++ B) x ≡ outputs_of B (outputs_of A x)
 unfolding outputs_of
@@ -236,3 +236,30 @@ inputs_more v outs outs' f w h e o = (ap length o ∙ (length-append outs (f ∷
     by q l (inr k) =
         let s : q ≡ length outs = omega (arith, w) in
         ap (λ i. get_or (outs ++ (f ∷ [])) i []) s ∙ get_or-append_seam outs f [] [] ∙ e ∙ ap (λ i. (i ∷ []) ∷ []) (sym w ∙ sym s)
+
+-- the step of a turn
+pub turned : (n : ℕ) (A : List Prim) (outs : List (List (List ℕ))) (phase lifted phase' : List Term) (theta phi lambda q wphi wlambda by : ℕ) (prim : Prim) (out : List (List ℕ))
+    → prim ≡ U theta phi lambda q → IsPlainPrim prim → IsWithin (length outs) prim → IsComposed n A outs phase
+    → wphi ≡ (2 * phi) % 4294967296 → wlambda ≡ (2 * lambda) % 4294967296 → by ≡ (wphi + wlambda) % 4294967296 → out ≡ get_or outs q out
+    → ((a : ℕ → Bool) → phase_value lifted a % 4294967296 ≡ times (bool_value out a) by % 4294967296)
+    → ((v : ℕ) → phase_occurs v lifted ≡ true → occurs v out ≡ true)
+    → IsPhasePoly phase'
+    → ((a : ℕ → Bool) → phase_value phase' a % 4294967296 ≡ (phase_value phase a + phase_value lifted a) % 4294967296)
+    → ((v : ℕ) → phase_occurs v phase' ≡ true → (phase_occurs v phase || phase_occurs v lifted) ≡ true)
+    → IsComposed n (A ++ (prim ∷ [])) outs phase'
+turned n A outs phase lifted phase' theta phi lambda q wphi wlambda by prim out p plain within w f l b o lift lift_variables form value variables =
+    let z : theta ≡ 0 = subst IsPlainPrim p plain in
+    let inside : q < length outs = subst (IsWithin (length outs)) p within in
+    let same : by ≡ ((2 * phi) % 4294967296 + (2 * lambda) % 4294967296) % 4294967296 = b ∙ ap₂ (λ (x y : ℕ). (x + y) % 4294967296) f l in
+    let read : out ≡ get_or outs q [] = o ∙ get_or_default outs q out [] inside in
+    subst (λ (g : Prim). IsComposed n (A ++ (g ∷ [])) outs phase') (sym (p ∙ ap (λ k. U k phi lambda q) z))
+    (composed_turn n A outs phase lifted phase' phi lambda by q w (omega (arith, inside, w.width)) same
+        (λ a. lift a ∙ ap (λ g. times (bool_value g a) by % 4294967296) read)
+        (λ v h. ap (occurs v) (sym read) ∙ lift_variables v h)
+        form value variables)
+
+-- the step of a controlled not
+pub flipped_outputs : (n : ℕ) (A : List Prim) (outs new : List (List (List ℕ))) (phase : List Term) (c t : ℕ) (prim : Prim) → prim ≡ Cx c t → Exchanged outs new c t → IsWithin (length outs) prim → IsComposed n A outs phase
+    → IsComposed n (A ++ (prim ∷ [])) new phase
+flipped_outputs n A outs new phase c t prim p e within w =
+    subst (λ (g : Prim). IsComposed n (A ++ (g ∷ [])) new phase) (sym p) (composed_exchange n A outs new phase c t e (subst (IsWithin (length outs)) p within) w)

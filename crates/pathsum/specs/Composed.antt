@@ -45,3 +45,8 @@ pub record Exchanged (old new : List (List (List ℕ))) (c t : ℕ) : Type 0 whe
   pub form : IsPoly sum
   pub value : (a : ℕ → Bool) → bool_value sum a ≡ differ (bool_value (get_or old t []) a) (bool_value (get_or old c []) a)
   pub variables : (v : ℕ) → occurs v sum ≡ true → (occurs v (get_or old t []) || occurs v (get_or old c [])) ≡ true
+
+-- if the prim is a U, its first angle is 0
+abbrev pub IsPlainPrim : Prim → Type 0
+IsPlainPrim (Cx c t) = Unit {0}
+IsPlainPrim (U theta phi lambda q) = theta ≡ 0

@@ -3,4 +3,5 @@ pub mod Composed
 pub mod Ended
 pub mod Inputs
 pub mod Plain
+pub mod Readings
 pub mod Verdicts

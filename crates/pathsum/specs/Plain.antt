@@ -1,5 +1,5 @@
 -- The grammar of plain pairs, on bytes, and the prims that they have.
-use Rattle.std.specs.Prelude.{◌≡◌, ◌≢◌, ℕ, ◌+◌, ◌-◌, ◌*◌, ◌/◌, ◌%◌, ◌^◌, ◌<◌, ◌≤◌, Bool, true, ◌&&◌, nat_le, ◌⊎◌, List, [], ◌∷◌, ◌++◌, length, codes}
+use Rattle.std.specs.Prelude.{◌≡◌, ◌≢◌, ℕ, ◌+◌, ◌-◌, ◌*◌, ◌/◌, ◌%◌, ◌^◌, ◌<◌, ◌≤◌, Bool, true, ◌&&◌, nat_le, List, [], ◌∷◌, ◌++◌, length, codes}
 use Rattle.std.specs.List.{list_all}
 use Rattle.std.specs.Int.{is_power_of_two}
 use Rattle.ps_prim.specs.declared.prims.Prim.{Prim}
@@ -134,8 +134,3 @@ pub record IsFit (n : ℕ) (A B : List Prim) : Type 0 where
   pub second_within : AllWithin n B
   pub first_plain : AllPlain A
   pub second_plain : AllPlain B
-
--- if the prim is a U, its first angle is 0
-abbrev pub IsPlainPrim : Prim → Type 0
-IsPlainPrim (Cx c t) = Unit {0}
-IsPlainPrim (U theta phi lambda q) = theta ≡ 0

@@ -4,13 +4,13 @@ ghost use Rattle.ps_bool.specs.Polys.{bool_value, occurs};
 ghost use Rattle.ps_phase.specs.Phases.{phase_value, phase_occurs};
 ghost use Rattle.ps_mono.specs.Truth.{times};
 ghost use Rattle.ps_prim.specs.Maps.{AllWithin, IsWithin};
-ghost use Rattle.pathsum.specs.Plain.{AllPlain, IsPlainPrim};
-ghost use Rattle.pathsum.specs.Composed.{IsComposed, Exchanged};
+ghost use Rattle.pathsum.specs.Plain.{AllPlain};
+ghost use Rattle.pathsum.specs.Composed.{IsComposed, Exchanged, IsPlainPrim};
 
 use ps_bool::BoolPoly;
 use ps_phase::PhasePoly;
 use ps_prim::Prim;
-use super::lifting::lift;
+use ps_sum::lift;
 use std::alloc::{AllocError, Global};
 
 /// What a list of prims without path variables comes to.

@@ -8,7 +8,6 @@ mod answer;
 mod compose;
 mod ended;
 mod input;
-mod lifting;
 mod plain;
 mod print;
 mod same;

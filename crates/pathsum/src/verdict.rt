@@ -39,8 +39,9 @@ fn output_difference(a: &PlainSum, b: &PlainSum) -> Result<Option<Mono>, AllocEr
 {
     for q in 0..a.outputs.len() {
         let difference = a.outputs[q].xor(&b.outputs[q])?;
-        if let Some(least) = difference.least() {
-            return Ok(Some(*least));
+        match difference.least() {
+            Some(least) => return Ok(Some(*least)),
+            None => {}
         }
     }
     Ok(None)
