@@ -18,8 +18,12 @@ pub use same::same_run;
 
 use answer::Answer;
 use print::print;
-use ps_io::{Gate, Sink, Source};
-use std::alloc::Global;
+use ps_io::{Gate, OpenGate, Sink, Source, StdSink, StdSource};
+use std::alloc::{AllocError, Global};
+use std::env;
+use std::io::ErrorKind;
+use std::process::ExitCode;
+use std::rt::Env;
 
 /// Does what the words say, with the input from the source and what is printed to the sink.
 pub fn run<S: Source, W: Sink, G: Gate + Sync>(alloc: Global, words: &[String], source: &mut S, sink: &mut W, _gate: &G) -> Ended
@@ -39,6 +43,27 @@ fn is_same(words: &[String]) -> bool
     words.len() == 1 && words[0].as_str() == "same"
 }
 
-fn main() {
-    let _ = answer::Answer::Yes.status();
+// The words behind the program's name; none where one of them is no UTF-8.
+fn words<R: Env + AllocGlobal>(rt: &R) -> Result<Vec<String>, AllocError> {
+    let mut words = Vec::new(rt.alloc());
+    match env::args(rt) {
+        Ok(arguments) => {
+            for word in arguments.skip(1) {
+                words.push(word)?;
+            }
+            Ok(words)
+        }
+        Err(fault) if fault.kind() == ErrorKind::OutOfMemory => Err(AllocError),
+        Err(_) => Ok(words),
+    }
+}
+
+fn main(rt: HostRuntime) -> ExitCode {
+    let Ok(words) = words(&rt) else {
+        return ExitCode::from(Answer::Memory.status());
+    };
+    let mut source = StdSource::new(rt.stdin());
+    let mut sink = StdSink::new(rt.stdout());
+    let ended = run(rt.alloc(), &words, &mut source, &mut sink, &OpenGate);
+    ExitCode::from(ended.status)
 }
