@@ -18,6 +18,8 @@ use Rattle.ps_prim.specs.Maps.{AllWithin, SameMap, DiffersAt}
 use Rattle.ps_prim.specs.Plain.{IsPlain}
 use Rattle.ps_prim.proofs.Plains.{plain_empty, plain_cx, plain_turn, plain_equal, plain_same, plain_output_differs, plain_phase_differs}
 use Rattle.pathsum.specs.Plain.{AllPlain}
+use Rattle.pathsum.specs.Limits.{IsWithinLimit}
+use Rattle.pathsum.specs.Compositions.{IsPlainWithin}
 use Rattle.pathsum.specs.Inputs.{input_of, truths_from}
 use Rattle.pathsum.specs.Composed.{outputs_of, turn_of, IsPolyOf, IsPhaseOf, IsComposed}
 use Rattle.pathsum.specs.Verdicts.{OutputDifference, PhaseDifference, NoOutput, LeastOutput, LeastPhase, IsFirstDifference, output, phase}
@@ -122,7 +124,7 @@ differs_where false false e f = off e
     off e = cc
 
 -- a variable of a polynomial in n inputs is one of them
-input_below : (n v : ℕ) (o : Bool) → (n ≤ v → o ≡ false) → o ≡ true → v < n
+pub input_below : (n v : ℕ) (o : Bool) → (n ≤ v → o ≡ false) → o ≡ true → v < n
 input_below n v o h e = by (cases_lt v n)
   where
     off : false ≡ true → ⊥
@@ -193,10 +195,17 @@ least_output n q A B (k ∷ d) m l e o h = record {
     head e = cc
 
 -- the answers to two lists, from the least monomials of their differences
-pub no_by_output : (n : ℕ) (A B : List Prim) (m : List ℕ) → AllWithin n A → AllWithin n B → AllPlain A → AllPlain B → LeastOutput n A B m
-    → (n ≡ n) × IsFirstDifference n A B (input_of n m) × DiffersAt n A B (input_of n m)
-no_by_output n A B m wa wb pa pb w = (refl, output m w refl, differs_output n A B m wa wb pa pb w)
+pub no_by_output : (n : ℕ) (A B : List Prim) (m : List ℕ) (xs ys : List (List (List ℕ))) (s t : List Term) → IsPlainWithin n A → IsPlainWithin n B → IsWithinLimit n A × IsComposed n A xs s → IsWithinLimit n B × IsComposed n B ys t
+    → (IsComposed n A xs s → IsComposed n B ys t → LeastOutput n A B m)
+    → IsWithinLimit n A × IsWithinLimit n B × (n ≡ n) × IsFirstDifference n A B (input_of n m) × DiffersAt n A B (input_of n m)
+no_by_output n A B m xs ys s t wa wb a b f = (a.0, b.0, refl, output m (f a.1 b.1) refl, differs_output n A B m wa.within wb.within wa.plain wb.plain (f a.1 b.1))
 
-pub no_by_phase : (n : ℕ) (A B : List Prim) (m : List ℕ) → AllWithin n A → AllWithin n B → AllPlain A → AllPlain B → NoOutput n A B → LeastPhase n A B m
-    → (n ≡ n) × IsFirstDifference n A B (input_of n m) × DiffersAt n A B (input_of n m)
-no_by_phase n A B m wa wb pa pb o w = (refl, phase m o w refl, differs_phase n A B m wa wb pa pb o w)
+pub no_by_phase : (n : ℕ) (A B : List Prim) (m : List ℕ) (xs ys : List (List (List ℕ))) (s t : List Term) → IsPlainWithin n A → IsPlainWithin n B → IsWithinLimit n A × IsComposed n A xs s → IsWithinLimit n B × IsComposed n B ys t
+    → (IsComposed n A xs s → IsComposed n B ys t → NoOutput n A B) → (IsComposed n A xs s → IsComposed n B ys t → LeastPhase n A B m)
+    → IsWithinLimit n A × IsWithinLimit n B × (n ≡ n) × IsFirstDifference n A B (input_of n m) × DiffersAt n A B (input_of n m)
+no_by_phase n A B m xs ys s t wa wb a b o f = (a.0, b.0, refl, phase m (o a.1 b.1) (f a.1 b.1) refl, differs_phase n A B m wa.within wb.within wa.plain wb.plain (o a.1 b.1) (f a.1 b.1))
+
+pub yes_by_both : (n : ℕ) (A B : List Prim) (xs ys : List (List (List ℕ))) (s t : List Term) → IsPlainWithin n A → IsPlainWithin n B → IsWithinLimit n A × IsComposed n A xs s → IsWithinLimit n B × IsComposed n B ys t
+    → (IsComposed n A xs s → IsComposed n B ys t → NoOutput n A B) → (IsComposed n A xs s → IsComposed n B ys t → PhaseDifference n A B [])
+    → IsWithinLimit n A × IsWithinLimit n B × SameMap n A B
+yes_by_both n A B xs ys s t wa wb a b o f = (a.0, b.0, decides_yes n A B wa.within wb.within wa.plain wb.plain (o a.1 b.1) (f a.1 b.1))

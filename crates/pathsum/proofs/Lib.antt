@@ -1,6 +1,7 @@
 pub mod InputLemmas
 pub mod Composing
 pub mod Comparing
+pub mod Counting
 pub mod Judging
 mod PlainNumbers
 mod PlainAngles

@@ -1,5 +1,5 @@
 -- What the answer to a pair of plain lists of prims claims.
-use Rattle.std.specs.Prelude.{ℕ, ◌≡◌, ◌+◌, ◌-◌, ◌%◌, ◌<◌, ◌≤◌, ◌⊎◌, Bool, List, [], ◌∷◌, ◌++◌, length}
+use Rattle.std.specs.Prelude.{ℕ, ◌≡◌, ◌+◌, ◌-◌, ◌%◌, ◌<◌, ◌≤◌, ◌⊎◌, Bool, List, [], ◌∷◌}
 use Rattle.ps_mono.specs.Truth.{differ}
 use Rattle.ps_phase.specs.declared.terms.Term.{Term}
 use Rattle.ps_prim.specs.declared.prims.Prim.{Prim}
@@ -9,6 +9,7 @@ use Rattle.pathsum.specs.declared.answer.Answer.{Answer}
 use Rattle.pathsum.specs.declared.answer.Answer.TheVariants.{Yes, No, Passed, Words, NotYet, Read, TooLong, Memory}
 use Rattle.pathsum.specs.Composed.{outputs_of, turn_of, IsPolyOf, IsPhaseOf}
 use Rattle.pathsum.specs.Inputs.{input_of}
+use Rattle.pathsum.specs.Limits.{IsWithinLimit, FirstPassed}
 
 -- d is the sum of output q of both lists
 abbrev pub OutputDifference : ℕ → List Prim → List Prim → ℕ → List (List ℕ) → Type 0
@@ -44,9 +45,9 @@ pub data IsFirstDifference (n : ℕ) (A B : List Prim) (x : Truths) : Type 0 whe
 
 -- what an answer claims of the lists A and B on n qubits
 abbrev pub Decides : ℕ → List Prim → List Prim → Answer → Type 0
-Decides n A B Yes = SameMap n A B
-Decides n A B (No input) = (input.qubits ≡ n) × IsFirstDifference n A B (input_of n input.at) × DiffersAt n A B (input_of n input.at)
-Decides n A B (Passed count) = ⊥
+Decides n A B Yes = IsWithinLimit n A × IsWithinLimit n B × SameMap n A B
+Decides n A B (No input) = IsWithinLimit n A × IsWithinLimit n B × (input.qubits ≡ n) × IsFirstDifference n A B (input_of n input.at) × DiffersAt n A B (input_of n input.at)
+Decides n A B (Passed count) = FirstPassed n A count ⊎ (IsWithinLimit n A × FirstPassed n B count)
 Decides n A B Words = ⊥
 Decides n A B NotYet = ⊥
 Decides n A B Read = ⊥

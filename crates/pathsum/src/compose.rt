@@ -6,11 +6,12 @@ ghost use Rattle.ps_mono.specs.Truth.{times};
 ghost use Rattle.ps_prim.specs.Maps.{AllWithin, IsWithin};
 ghost use Rattle.pathsum.specs.Plain.{AllPlain};
 ghost use Rattle.pathsum.specs.Composed.{IsComposed, Exchanged, IsPlainPrim};
+ghost use Rattle.pathsum.specs.Compositions.{IsComposition, IsRawCount};
 
 use ps_bool::BoolPoly;
 use ps_phase::PhasePoly;
 use ps_prim::Prim;
-use ps_sum::lift;
+use ps_sum::{lift, raw_term};
 use std::alloc::{AllocError, Global};
 
 /// What a list of prims without path variables comes to.
@@ -22,18 +23,49 @@ pub struct PlainSum {
     pub phase: PhasePoly,
 }
 
+/// What a list of prims comes to, if no phase of it makes too many terms.
+#[derive(Drop)]
+pub enum Composed {
+    /// Its sum.
+    Sum(PlainSum),
+    /// How many terms the first phase that makes too many makes, before equal ones are gathered.
+    Passed(u64),
+}
+
+/// The greatest number of terms that a phase may make before equal ones are gathered.
+const MOST_TERMS: u64 = 65_536;
+
 /// What the prims come to, one after the other.
-pub fn compose(alloc: Global, qubits: u32, prims: &[Prim]) -> Result<PlainSum, AllocError>
+pub fn compose(alloc: Global, qubits: u32, prims: &[Prim]) -> Result<Composed, AllocError>
     requires few { qubits ≤ 64 }
     requires within { AllWithin qubits prims.now }
     requires plain { AllPlain prims.now }
-    ensures { IfOk result (λ s. IsComposed qubits prims.now s.outputs.items s.phase) }
+    ensures { IfOk result (IsComposition qubits prims.now) }
 {
     let mut sum = identity(alloc, qubits)?;
     for prim in prims {
+        let count = raw_count(&sum, prim);
+        if count > MOST_TERMS {
+            return Ok(Composed::Passed(count));
+        }
         apply(alloc, &mut sum, prim)?;
     }
-    Ok(sum)
+    Ok(Composed::Sum(sum))
+}
+
+// How many terms the prim's phase makes before equal ones are gathered; 10^12 where it is above that.
+fn raw_count(sum: &PlainSum, prim: &Prim) -> u64
+    requires { IsWithin (length sum.now.outputs.items) prim.now }
+    ensures { (n : ℕ) (A : List Prim) → IsComposed n A sum.now.outputs.items sum.now.phase → IsRawCount n A prim.now result }
+{
+    match *prim {
+        Prim::Cx { .. } => 0,
+        Prim::U { phi, lambda, q, .. } => {
+            let by = phi.whole().add(lambda.whole());
+            let output = &sum.outputs[q as usize];
+            raw_term(by, output.count())
+        }
+    }
 }
 
 // No prim at all: each output is its input.

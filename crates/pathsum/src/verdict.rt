@@ -2,11 +2,12 @@ ghost use Rattle.std.specs.Prelude.{◌≡◌, ℕ, ◌<◌, ◌≤◌, ◌+◌,
 ghost use Rattle.ps_prim.specs.declared.prims.Prim.{Prim};
 ghost use Rattle.ps_prim.specs.Maps.{AllWithin};
 ghost use Rattle.pathsum.specs.Composed.{IsComposed};
+ghost use Rattle.pathsum.specs.Compositions.{IsComposition, IsPlainWithin};
 ghost use Rattle.pathsum.specs.Plain.{AllPlain};
 ghost use Rattle.pathsum.specs.Verdicts.{Decides, OutputDifference, PhaseDifference, NoOutput, LeastPhase, LeastOutput};
 
 use super::answer::Answer;
-use super::compose::{PlainSum, compose};
+use super::compose::{Composed, PlainSum, compose};
 use super::input::Input;
 use ps_mono::Mono;
 use ps_prim::Prim;
@@ -21,11 +22,26 @@ pub fn compare(alloc: Global, qubits: u32, first: &[Prim], second: &[Prim]) -> R
     requires second_plain { AllPlain second.now }
     ensures { IfOk result (Decides qubits first.now second.now) }
 {
-    let a = compose(alloc, qubits, first)?;
-    let b = compose(alloc, qubits, second)?;
-    match output_difference(&a, &b)? {
+    let a = match compose(alloc, qubits, first)? {
+        Composed::Sum(sum) => sum,
+        Composed::Passed(count) => return Ok(Answer::Passed(count)),
+    };
+    let b = match compose(alloc, qubits, second)? {
+        Composed::Sum(sum) => sum,
+        Composed::Passed(count) => return Ok(Answer::Passed(count)),
+    };
+    difference(qubits, &a, &b)
+}
+
+// The answer to two sums that were composed.
+fn difference(qubits: u32, a: &PlainSum, b: &PlainSum) -> Result<Answer, AllocError>
+    requires few { qubits ≤ 64 }
+    requires wide { length a.now.outputs.items ≡ length b.now.outputs.items }
+    ensures { IfOk result (λ answer. (A B : List Prim) → IsPlainWithin qubits A → IsPlainWithin qubits B → IsComposition qubits A (Composed.Sum a.now) → IsComposition qubits B (Composed.Sum b.now) → Decides qubits A B answer) }
+{
+    match output_difference(a, b)? {
         Some(at) => Ok(Answer::No(Input { qubits, at })),
-        None => match phase_difference(&a, &b)? {
+        None => match phase_difference(a, b)? {
             Some(at) => Ok(Answer::No(Input { qubits, at })),
             None => Ok(Answer::Yes),
         },
