@@ -10,7 +10,7 @@ use Rattle.ps_prim.specs.declared.prims.Prim.TheVariants.{U, Cx}
 use Rattle.ps_prim.specs.Amplitudes.{Truths, bit}
 use Rattle.ps_prim.specs.Maps.{IsWithin}
 use Rattle.ps_sum.specs.Counts.{raw_term}
-use Rattle.pathsum.specs.Composed.{outputs_of, IsPolyOf, IsComposed}
+use Rattle.pathsum.specs.Composed.{outputs_of, IsPolyOf, IsPartial}
 use Rattle.pathsum.specs.Compositions.{IsRawCount}
 use Rattle.pathsum.specs.Limits.{RawCount, IsWithinTo, IsWithinLimit, FirstPassed}
 use Rattle.pathsum.proofs.Comparing.{input_below}
@@ -40,11 +40,11 @@ poly_one n h f g wf wg = one_form f g wf.form wg.form (λ a. at a f wf ∙ sym (
         ∙ w.value (front a 0 n) (length-front a 0 n)
 
 -- the count of a turn
-pub raw_turn : (n : ℕ) (A : List Prim) (outs : List (List (List ℕ))) (phase : List Term) (theta phi lambda q wphi wlambda by t count : ℕ) (prim : Prim) (out : List (List ℕ))
-    → prim ≡ U theta phi lambda q → IsWithin (length outs) prim → IsComposed n A outs phase
+pub raw_turn : (n : ℕ) (A : List Prim) (outs : List (List (List ℕ))) (phase waiting : List Term) (theta phi lambda q wphi wlambda by t count : ℕ) (prim : Prim) (out : List (List ℕ))
+    → prim ≡ U theta phi lambda q → IsWithin (length outs) prim → IsPartial n A outs phase waiting
     → wphi ≡ (2 * phi) % 4294967296 → wlambda ≡ (2 * lambda) % 4294967296 → by ≡ (wphi + wlambda) % 4294967296 → out ≡ get_or outs q out → t ≡ length out
     → count ≡ min (raw_term by t) 1000000000000 → IsRawCount n A prim count
-raw_turn n A outs phase theta phi lambda q wphi wlambda by t count prim out p within w f l b o k e =
+raw_turn n A outs phase waiting theta phi lambda q wphi wlambda by t count prim out p within w f l b o k e =
     let inside : q < length outs = subst (IsWithin (length outs)) p within in
     let below : q < n = omega (arith, inside, w.width) in
     let same : by ≡ (2 * phi + 2 * lambda) % 4294967296 = omega (arith, f, l, b) in

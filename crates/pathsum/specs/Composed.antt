@@ -38,6 +38,15 @@ pub record IsComposed (n : ℕ) (A : List Prim) (outs : List (List (List ℕ))) 
   pub output : (q : ℕ) → q < n → IsPolyOf n (λ x. bit (outputs_of A x) q) (get_or outs q [])
   pub turn : IsPhaseOf n (turn_of A) phase
 
+-- the same while phases wait to be added: the polynomial of the phase, and terms in any order beside it
+pub record IsPartial (n : ℕ) (A : List Prim) (outs : List (List (List ℕ))) (phase waiting : List Term) : Type 0 where
+  pub width : length outs ≡ n
+  pub output : (q : ℕ) → q < n → IsPolyOf n (λ x. bit (outputs_of A x) q) (get_or outs q [])
+  pub form : IsPhasePoly phase
+  pub phase_inputs : (v : ℕ) → n ≤ v → phase_occurs v phase ≡ false
+  pub waiting_inputs : (v : ℕ) → n ≤ v → phase_occurs v waiting ≡ false
+  pub value : (x : Truths) → length x ≡ n → (phase_value phase (bit x) + phase_value waiting (bit x)) % 4294967296 ≡ turn_of A x % 4294967296
+
 -- output t became the sum of outputs t and c
 pub record Exchanged (old new : List (List (List ℕ))) (c t : ℕ) : Type 0 where
   pub sum : List (List ℕ)

@@ -13,4 +13,4 @@ loop-v-preserved c =
 pub returns : goal.returns
 returns c =
     let e : c.loop-v.v ≡ c.args.qubits = omega arith in
-    composed_nothing _ _ _ (c.loop-v.invariant.wide ∙ e) (λ q l. c.loop-v.invariant.inputs q (omega (arith, e))) c.requires c.zero.ensures
+    composed_nothing _ _ _ _ (c.loop-v.invariant.wide ∙ e) (λ q l. c.loop-v.invariant.inputs q (omega (arith, e))) c.requires c.zero-phase.ensures c.new.ensures.items
