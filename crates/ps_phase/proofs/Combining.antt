@@ -1,5 +1,5 @@
 -- Runs of one monomial combined, in a list that rises.
-use Rattle.std.proofs.Common.{◌≡◌, ◌≢◌, ℕ, zero, suc, ◌+◌, ◌%◌, refl, ap, ap₂, sym, ◌∙◌, subst, arith, ◌<◌, ◌≤◌, Bool, true, false, cond, nat_eq, List, [], ◌∷◌, ◌++◌, length, drop, take, get_or, append-nil, append_assoc, drop_of_length-le, Ordering, Less, Equal, Greater, nat_cmp, ◌||◌, ◌⊎◌, inl, inr}
+use Rattle.std.proofs.Common.{◌≡◌, ℕ, zero, suc, ◌+◌, ◌%◌, refl, ap, ap₂, sym, ◌∙◌, subst, arith, ◌<◌, ◌≤◌, Bool, true, false, List, [], ◌∷◌, ◌++◌, length, drop, take, get_or, append_assoc, drop_of_length-le, Ordering, Less, Equal, Greater, nat_cmp, ◌||◌, ◌⊎◌, inl, inr}
 use Rattle.std.proofs.lemmas.Bool.{cases_lt}
 use Rattle.ps_phase.proofs.Values.{coefficient_at, coefficient_none}
 use Rattle.std.specs.Ordering.{is_lt, ordering_then, ordering_reverse, ordering_index}
@@ -16,7 +16,7 @@ use Rattle.ps_mono.specs.Truth.{times}
 use Rattle.ps_mono.proofs.Orders.{mono_total, mono_equal, mono_same, mono_flip, mono_trans}
 use Rattle.ps_phase.specs.Phases.{phase_value, phase_occurs, coefficient, TermBefore, IsPhasePoly, AllSmall}
 use Rattle.ps_phase.specs.Adding.{choose, put_term, combined_terms}
-use Rattle.ps_phase.proofs.Adding.{M, put_value, put_before, put_form, put_free, put_append, cut, choose_value, choose_before, choose_form, choose_free, both_value, neither, no_or, set_empty, times_none, from_one}
+use Rattle.ps_phase.proofs.Adding.{M, put_value, put_before, put_form, put_free, put_append, cut, choose_value, choose_before, choose_form, choose_free, both_value, neither, set_empty, times_none, from_one}
 
 -- ---- values
 apart : (m : List ℕ) (p : ℕ) (t : Term) (ts : List Term) (a : ℕ → Bool) → phase_value (combined_terms t.mono t.phase ts) a % M ≡ (times (holds t.mono a) t.phase + phase_value ts a) % M

@@ -7,3 +7,6 @@ pub mod terms;
 
 pub use poly::PhasePoly;
 pub use terms::Term;
+
+#[cfg(test)]
+mod tests;
