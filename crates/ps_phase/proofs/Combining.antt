@@ -15,6 +15,7 @@ use Rattle.ps_mono.specs.Sets.{mono_cmp, holds, stands, IsVarSet}
 use Rattle.ps_mono.specs.Truth.{times}
 use Rattle.ps_mono.proofs.Orders.{mono_total, mono_equal, mono_same, mono_flip, mono_trans}
 use Rattle.ps_phase.specs.Phases.{phase_value, phase_occurs, coefficient, TermBefore, IsPhasePoly, AllSmall}
+use Rattle.ps_phase.specs.Placing.{IsPlace}
 use Rattle.ps_phase.specs.Adding.{choose, put_term, combined_terms}
 use Rattle.ps_phase.proofs.Adding.{M, put_value, put_before, put_form, put_free, put_append, cut, choose_value, choose_before, choose_form, choose_free, both_value, neither, set_empty, times_none, from_one}
 
@@ -205,3 +206,11 @@ pub found_none : (m : List ℕ) (p xs f : List Term) (i n : ℕ) → xs ≡ p �
     → (IsNonDecreasingBy (λ (y : Term). ordering_index (mono_cmp y.mono m)) f → IsPartitionPoint (λ (y : Term). mono_cmp y.mono m ≡ Less) (λ (y : Term). mono_cmp y.mono m ≡ Greater) f i) → n ≡ coefficient m p
 found_none m p xs f i n ep ef s z h =
     z ∙ sym (search_none m f i (h (searchable_from_sorted mono_total (λ (t : Term). t.mono) f m (poly_sorted f (subst IsPhasePoly (sym ef) s))))) ∙ ap (coefficient m) (ef ∙ ep)
+
+-- ---- what a search for m says of its place
+pub place_of : (m : List ℕ) (ts : List Term) (i : ℕ) → i < length ts → ((d : Term) → mono_cmp (get_or ts i d).mono m ≡ Equal) → IsPlace m ts i
+place_of m ts i h f = record { inside = h; mono = λ d. mono_equal (get_or ts i d).mono m (f d) }
+
+pub none_at : (m : List ℕ) (f : List Term) (i : ℕ) → IsPhasePoly f
+    → (IsNonDecreasingBy (λ (y : Term). ordering_index (mono_cmp y.mono m)) f → IsPartitionPoint (λ (y : Term). mono_cmp y.mono m ≡ Less) (λ (y : Term). mono_cmp y.mono m ≡ Greater) f i) → coefficient m f ≡ 0
+none_at m f i s h = sym (found_none m f f f i 0 refl refl s refl h)
