@@ -1,7 +1,7 @@
 -- Terms added.
-use Rattle.std.proofs.Common.{◌≡◌, ◌≢◌, ℕ, ◌+◌, ◌%◌, refl, ap, ap₂, sym, ◌∙◌, subst, arith, ◌<◌, ◌≤◌, Bool, true, false, cond, nat_eq, List, [], ◌∷◌, ◌++◌, length, drop, take, get_or, drop-cons, add-one, drop_of_length-le, append-nil, append_assoc, length-drop, take-append-drop, ◌-◌, ◌⊎◌, inl, inr, Ordering, Less, Equal, Greater, ◌*◌, ◌&&◌, ◌||◌, add-zero}
+use Rattle.std.proofs.Common.{◌≡◌, ◌≢◌, ℕ, ◌+◌, ◌%◌, refl, ap, ap₂, sym, ◌∙◌, subst, arith, ◌<◌, ◌≤◌, Bool, true, false, cond, nat_eq, List, [], ◌∷◌, ◌++◌, length, drop, take, get_or, drop-cons, add-one, drop_of_length-le, append-nil, append_assoc, length-drop, ◌-◌, ◌⊎◌, inl, inr, Ordering, Less, Equal, Greater, ◌||◌}
 use Rattle.std.proofs.lemmas.Bool.Decides.{nat_tests}
-use Rattle.std.proofs.lemmas.List.{take_all, take_more}
+use Rattle.std.proofs.lemmas.List.{take_all}
 use Rattle.ps_phase.specs.declared.terms.Term.{Term}
 use Rattle.ps_mono.specs.Sets.{mono_cmp, holds, stands, IsVarSet}
 use Rattle.ps_mono.proofs.Laws.{climbing_set}

@@ -1,5 +1,5 @@
 -- Runs of one monomial combined, in a list that rises.
-use Rattle.std.proofs.Common.{◌≡◌, ◌≢◌, ℕ, zero, suc, ◌+◌, ◌%◌, refl, ap, ap₂, sym, ◌∙◌, subst, arith, ◌<◌, ◌≤◌, Bool, true, false, cond, nat_eq, List, [], ◌∷◌, ◌++◌, length, drop, take, get_or, append-nil, append_assoc, drop_of_length-le, Ordering, Less, Equal, Greater, nat_cmp, ◌||◌, ◌⊎◌, inl, inr}
+use Rattle.std.proofs.Common.{◌≡◌, ℕ, zero, suc, ◌+◌, ◌%◌, refl, ap, ap₂, sym, ◌∙◌, subst, arith, ◌<◌, ◌≤◌, Bool, true, false, List, [], ◌∷◌, ◌++◌, length, drop, take, get_or, append_assoc, drop_of_length-le, Ordering, Less, Equal, Greater, nat_cmp, ◌||◌, ◌⊎◌, inl, inr}
 use Rattle.std.proofs.lemmas.Bool.{cases_lt}
 use Rattle.ps_phase.proofs.Values.{coefficient_at, coefficient_none}
 use Rattle.std.specs.Ordering.{is_lt, ordering_then, ordering_reverse, ordering_index}
@@ -15,8 +15,9 @@ use Rattle.ps_mono.specs.Sets.{mono_cmp, holds, stands, IsVarSet}
 use Rattle.ps_mono.specs.Truth.{times}
 use Rattle.ps_mono.proofs.Orders.{mono_total, mono_equal, mono_same, mono_flip, mono_trans}
 use Rattle.ps_phase.specs.Phases.{phase_value, phase_occurs, coefficient, TermBefore, IsPhasePoly, AllSmall}
+use Rattle.ps_phase.specs.Placing.{IsPlace}
 use Rattle.ps_phase.specs.Adding.{choose, put_term, combined_terms}
-use Rattle.ps_phase.proofs.Adding.{M, put_value, put_before, put_form, put_free, put_append, cut, choose_value, choose_before, choose_form, choose_free, both_value, neither, no_or, set_empty, times_none, from_one}
+use Rattle.ps_phase.proofs.Adding.{M, put_value, put_before, put_form, put_free, put_append, cut, choose_value, choose_before, choose_form, choose_free, both_value, neither, set_empty, times_none, from_one}
 
 -- ---- values
 apart : (m : List ℕ) (p : ℕ) (t : Term) (ts : List Term) (a : ℕ → Bool) → phase_value (combined_terms t.mono t.phase ts) a % M ≡ (times (holds t.mono a) t.phase + phase_value ts a) % M
@@ -205,3 +206,11 @@ pub found_none : (m : List ℕ) (p xs f : List Term) (i n : ℕ) → xs ≡ p �
     → (IsNonDecreasingBy (λ (y : Term). ordering_index (mono_cmp y.mono m)) f → IsPartitionPoint (λ (y : Term). mono_cmp y.mono m ≡ Less) (λ (y : Term). mono_cmp y.mono m ≡ Greater) f i) → n ≡ coefficient m p
 found_none m p xs f i n ep ef s z h =
     z ∙ sym (search_none m f i (h (searchable_from_sorted mono_total (λ (t : Term). t.mono) f m (poly_sorted f (subst IsPhasePoly (sym ef) s))))) ∙ ap (coefficient m) (ef ∙ ep)
+
+-- ---- what a search for m says of its place
+pub place_of : (m : List ℕ) (ts : List Term) (i : ℕ) → i < length ts → ((d : Term) → mono_cmp (get_or ts i d).mono m ≡ Equal) → IsPlace m ts i
+place_of m ts i h f = record { inside = h; mono = λ d. mono_equal (get_or ts i d).mono m (f d) }
+
+pub none_at : (m : List ℕ) (f : List Term) (i : ℕ) → IsPhasePoly f
+    → (IsNonDecreasingBy (λ (y : Term). ordering_index (mono_cmp y.mono m)) f → IsPartitionPoint (λ (y : Term). mono_cmp y.mono m ≡ Less) (λ (y : Term). mono_cmp y.mono m ≡ Greater) f i) → coefficient m f ≡ 0
+none_at m f i s h = sym (found_none m f f f i 0 refl refl s refl h)

@@ -3,3 +3,4 @@ pub mod Scaling
 pub mod Combining
 pub mod Values
 pub mod Unique
+pub mod Absorbing

@@ -1,11 +1,11 @@
 -- Terms scaled, and terms selected.
-use Rattle.std.proofs.Common.{◌≡◌, ℕ, ◌+◌, ◌*◌, ◌%◌, refl, ap, ap₂, sym, ◌∙◌, subst, arith, ◌<◌, ◌≤◌, Bool, true, false, cond, List, [], ◌∷◌, ◌++◌, length, drop, get_or, ◌⊎◌, inl, inr, drop-cons, add-one, drop_of_length-le, append-nil, append_assoc}
+use Rattle.std.proofs.Common.{◌≡◌, ℕ, ◌+◌, ◌*◌, ◌%◌, ap, sym, ◌∙◌, subst, arith, ◌<◌, ◌≤◌, Bool, true, false, cond, List, [], ◌∷◌, ◌++◌, length, drop, get_or, ◌⊎◌, inl, inr, drop_of_length-le, append-nil, append_assoc}
 use Rattle.ps_phase.specs.declared.terms.Term.{Term}
 use Rattle.ps_mono.specs.Sets.{holds, stands}
 use Rattle.ps_mono.specs.Truth.{times}
 use Rattle.ps_phase.specs.Phases.{phase_value, phase_occurs, TermBefore, IsPhasePoly}
 use Rattle.ps_phase.specs.Adding.{put_term, scaled_terms, terms_with}
-use Rattle.ps_phase.proofs.Adding.{M, put_value, put_before, put_form, put_free, put_append, cut, neither, no_or, from_one}
+use Rattle.ps_phase.proofs.Adding.{M, put_value, put_before, put_form, put_free, put_append, cut, neither, from_one}
 
 -- ---- scaled
 scale_step : (b : Bool) (by p q r : ℕ) → r % M ≡ (by * q) % M → (times b ((by * p) % M) + r) % M ≡ (by * (times b p + q)) % M

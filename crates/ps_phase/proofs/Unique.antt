@@ -1,11 +1,11 @@
 -- A polynomial is determined by its values.
-use Rattle.std.proofs.Common.{◌≡◌, ◌≢◌, ℕ, ◌+◌, ◌%◌, refl, ap, ap₂, sym, ◌∙◌, subst, arith, ◌<◌, Bool, true, false, ◌&&◌, nat_eq, List, [], ◌∷◌, Ordering, Less, Equal, Greater}
+use Rattle.std.proofs.Common.{◌≡◌, ◌≢◌, ℕ, ◌%◌, refl, ap, ap₂, sym, ◌∙◌, arith, ◌<◌, Bool, true, false, ◌&&◌, nat_eq, List, [], ◌∷◌, Ordering, Less, Equal, Greater}
 use Rattle.std.specs.Bool.{Decides}
 use Rattle.std.specs.Cmp.Lexicographic.{pointwise}
 use Rattle.std.proofs.lemmas.Bool.Decides.{Decides-eqb}
 use Rattle.ps_phase.proofs.Values.{mono_eq}
 use Rattle.ps_phase.specs.declared.terms.Term.{Term}
-use Rattle.ps_mono.specs.Sets.{mono_cmp, holds, stands, IsVarSet}
+use Rattle.ps_mono.specs.Sets.{mono_cmp, holds, IsVarSet}
 use Rattle.ps_mono.specs.Truth.{times}
 use Rattle.ps_mono.proofs.Orders.{mono_equal, mono_flip}
 use Rattle.ps_mono.proofs.Points.{point, holds-point, holds-earlier_point}

@@ -1,5 +1,5 @@
 -- Values, variables and coefficients, term by term.
-use Rattle.std.proofs.Common.{◌≡◌, ◌≢◌, ℕ, zero, suc, ◌+◌, ◌%◌, refl, ap, ap₂, sym, ◌∙◌, subst, arith, ◌<◌, ◌≤◌, Bool, true, false, cond, nat_eq, ◌&&◌, ◌||◌, List, [], ◌∷◌, ◌++◌, length, drop, take, get_or, ◌⊎◌, inl, inr, Ordering, Less, Equal, Greater}
+use Rattle.std.proofs.Common.{◌≡◌, ℕ, zero, suc, ◌+◌, ◌%◌, refl, ap, ap₂, sym, ◌∙◌, subst, arith, ◌<◌, ◌≤◌, Bool, true, false, cond, nat_eq, ◌&&◌, ◌||◌, List, [], ◌∷◌, ◌++◌, length, take, get_or, ◌⊎◌, inl, inr, Less}
 use Rattle.std.specs.Bool.{Decides}
 use Rattle.std.specs.Cmp.Lexicographic.{pointwise}
 use Rattle.std.proofs.lemmas.Bool.Decides.{Decides-eqb}
@@ -9,7 +9,7 @@ use Rattle.ps_phase.specs.declared.terms.Term.{Term}
 use Rattle.ps_mono.specs.Sets.{mono_cmp, holds, stands}
 use Rattle.ps_mono.specs.Lists.{nat_eq_same}
 use Rattle.ps_mono.specs.Truth.{times}
-use Rattle.ps_mono.proofs.Orders.{mono_equal, mono_same, never_self}
+use Rattle.ps_mono.proofs.Orders.{never_self}
 use Rattle.ps_phase.specs.Phases.{phase_value, phase_occurs, coefficient, TermBefore, IsPhasePoly}
 use Rattle.ps_phase.proofs.Adding.{M, neither}
 
@@ -93,12 +93,12 @@ not_eq m k n = by (pointwise nat_eq m k) refl
     by false e = refl
     by true e = absurd (n ((mono_eq m k).0 e))
 
-skipped : (m : List ℕ) (t : Term) (ts : List Term) → (m ≡ t.mono → ⊥) → coefficient m (t ∷ ts) ≡ coefficient m ts
+pub skipped : (m : List ℕ) (t : Term) (ts : List Term) → (m ≡ t.mono → ⊥) → coefficient m (t ∷ ts) ≡ coefficient m ts
 unfolding coefficient
 skipped m t ts n = ap (λ b. cond b t.phase (coefficient m ts)) (not_eq m t.mono n)
 
 -- what comes later is another monomial
-later_differs : (m : List ℕ) (ts : List Term) (i : ℕ) (t : Term) → TermBefore m ts → i < length ts → t ≡ get_or ts i t → t.mono ≡ m → ⊥
+pub later_differs : (m : List ℕ) (ts : List Term) (i : ℕ) (t : Term) → TermBefore m ts → i < length ts → t ≡ get_or ts i t → t.mono ≡ m → ⊥
 later_differs m [] i t b h e d = absurd (omega arith)
 later_differs m (u ∷ ts) zero t b h e d = never_self m (subst (λ (x : List ℕ). mono_cmp m x ≡ Less) (ap (λ (x : Term). x.mono) (sym e) ∙ d) b.0)
 later_differs m (u ∷ ts) (suc i) t b h e d = later_differs m ts i t b.1 (omega arith) e d

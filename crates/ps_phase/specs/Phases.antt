@@ -1,5 +1,5 @@
 -- Phase polynomials as lists of terms, and what they are worth.
-use Rattle.std.specs.Prelude.{ℕ, ◌≡◌, ◌≢◌, ◌+◌, ◌%◌, ◌<◌, Bool, true, false, ◌||◌, cond, List, [], ◌∷◌, nat_eq}
+use Rattle.std.specs.Prelude.{ℕ, ◌≡◌, ◌≢◌, ◌+◌, ◌%◌, ◌<◌, Bool, false, ◌||◌, cond, List, [], ◌∷◌, nat_eq}
 use Rattle.std.specs.declared.cmp.Ordering.TheVariants.{Less}
 use Rattle.std.specs.Cmp.Lexicographic.{pointwise}
 use Rattle.ps_phase.specs.declared.terms.Term.{Term}

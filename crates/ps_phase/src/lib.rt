@@ -1,9 +1,13 @@
 //! Phase polynomials: how far each assignment of the variables turns the phase, as a sum of terms.
 #![tactic(auto)]
 
+mod inplace;
 pub mod merging;
 pub mod poly;
 pub mod terms;
 
 pub use poly::PhasePoly;
 pub use terms::Term;
+
+#[cfg(test)]
+mod tests;

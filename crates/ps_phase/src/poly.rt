@@ -3,6 +3,7 @@ ghost use Rattle.ps_phase.specs.Phases.{phase_value, phase_occurs, IsPhasePoly, 
 ghost use Rattle.ps_phase.specs.Adding.{terms_with};
 ghost use Rattle.ps_mono.specs.Sets.{stands};
 
+use super::inplace::{absorb, fits};
 use super::merging::{added, combined, push_term, scaled, selected};
 use super::terms::Term;
 use ps_mono::{Bits, Mono};
@@ -82,6 +83,10 @@ impl PhasePoly {
         ensures form { IsPhasePoly self.new }
         ensures kept { OnErr result (self.new ≡ self.old) }
     {
+        if fits(&self.terms, &other.terms) {
+            absorb(&mut self.terms, &other.terms);
+            return Ok(());
+        }
         let terms = added(*self.terms.allocator(), &self.terms, &other.terms)?;
         self.terms = terms;
         Ok(())

@@ -43,7 +43,7 @@ alone v m by s = ap (λ b. b || false) s
 pub pushed_start : (m m' : List ℕ) (by p n : ℕ) (old ts : List Term) → m' ≡ m → p ≡ by → n ≡ length old → ts ≡ old ++ record { mono = m'; phase = p } ∷ [] → Pushed m by n 0 old ts
 pushed_start m m' by p n old ts em ep el e =
     let d : drop n ts ≡ record { mono = m; phase = by } ∷ [] =
-      ap₂ (λ (k : ℕ) (r : List Term). drop k r) el e ∙ drop_push old (length old) _ (omega arith) ∙ ap₂ (λ (r : List Term) (y : Term). r ++ y ∷ []) (drop-length old) (ap₂ (λ (x : List ℕ) (y : ℕ). record { mono = x; phase = y }) em ep)
+    ap₂ (λ (k : ℕ) (r : List Term). drop k r) el e ∙ drop_push old (length old) _ (omega arith) ∙ ap₂ (λ (r : List Term) (y : Term). r ++ y ∷ []) (drop-length old) (ap₂ (λ (x : List ℕ) (y : ℕ). record { mono = x; phase = y }) em ep)
     in
     record {
       whole = ap (λ (r : List Term). old ++ r) (d ∙ ap₂ (λ (x : List ℕ) (y : ℕ). record { mono = x; phase = y } ∷ []) (sym em) (sym ep)) ∙ sym e;

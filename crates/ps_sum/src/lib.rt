@@ -6,3 +6,6 @@ pub mod lifting;
 
 pub use counts::{raw_bool, raw_phase, raw_term};
 pub use lifting::lift;
+
+#[cfg(test)]
+mod tests;

@@ -1,7 +1,5 @@
-use Rattle.std.proofs.Common.{ap, sym, ◌∙◌, ◌++◌, arith, vec_items, List, [], ◌∷◌}
-use Rattle.ps_phase.specs.declared.terms.Term.{Term}
-use Rattle.ps_phase.specs.Adding.{combined_terms}
-use Rattle.ps_phase.proofs.Combining.{combined_step_same, combined_step_other, combined_end, small_more, small_end}
+use Rattle.std.proofs.Common.{ap, arith, vec_items}
+use Rattle.ps_phase.proofs.Combining.{combined_step_same, combined_step_other, combined_end, small_more}
 use Rattle.ps_phase.proofs.merging.combined.Goals as goal
 use Rattle.ps_phase.proofs.merging.combined.Goals.{in-Equal, in_default+in_ok-push_term}
 

@@ -1,4 +1,4 @@
-use Rattle.std.proofs.Common.{◌≡◌, ◌<◌, ◌++◌, [], drop, take}
+use Rattle.std.proofs.Common.{◌≡◌, ◌++◌, [], drop, take}
 use Rattle.ps_phase.specs.Adding.{combined_terms}
 use Rattle.ps_phase.specs.Phases.{AllSmall}
 use Rattle.ps_phase.proofs.merging.combined.Given as goal

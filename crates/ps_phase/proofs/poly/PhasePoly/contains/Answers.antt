@@ -1,6 +1,6 @@
 use Rattle.std.proofs.Common.{refl, ap, sym, ◌∙◌}
 use Rattle.ps_phase.specs.Phases.{phase_occurs}
-use Rattle.ps_phase.proofs.Values.{occurs_at, free_more, free_end}
+use Rattle.ps_phase.proofs.Values.{occurs_at, free_more}
 use Rattle.ps_phase.proofs.poly.PhasePoly.contains.Goals as goal
 
 pub loop-term-init : goal.loop-term-init

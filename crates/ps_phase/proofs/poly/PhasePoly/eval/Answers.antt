@@ -1,5 +1,5 @@
 use Rattle.std.proofs.Common.{inl, inr, ◌∙◌}
-use Rattle.ps_phase.proofs.Values.{phase_start, phase_skip, phase_end}
+use Rattle.ps_phase.proofs.Values.{phase_start, phase_skip}
 use Rattle.ps_phase.proofs.poly.PhasePoly.eval.Goals as goal
 use Rattle.ps_phase.proofs.poly.PhasePoly.eval.Goals.{then-holds, else-holds}
 

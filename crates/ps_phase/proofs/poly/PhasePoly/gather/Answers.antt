@@ -1,8 +1,6 @@
-use Rattle.std.proofs.Common.{rules, ap}
-use Rattle.std.specs.Ordering.{is_lt}
+use Rattle.std.proofs.Common.{rules}
 use Rattle.std.proofs.lemmas.Fn.{always_returns_same}
 use Rattle.std.proofs.lemmas.List.Sorted.{ranks_by}
-use Rattle.ps_mono.specs.Sets.{mono_cmp}
 use Rattle.ps_mono.proofs.Orders.{mono_total}
 use Rattle.ps_phase.proofs.Combining.{falls, gathered_form, gathered_value, gathered_free}
 use Rattle.ps_phase.proofs.poly.PhasePoly.gather.Goals as goal
