@@ -5,3 +5,4 @@ pub mod Sums
 pub mod SumLaws
 pub mod Columns
 pub mod Overlaps
+pub mod Items
