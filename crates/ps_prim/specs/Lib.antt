@@ -6,3 +6,5 @@ pub mod SumLaws
 pub mod Columns
 pub mod Overlaps
 pub mod Items
+pub mod Closed
+pub mod AmplitudeLaws
