@@ -11,3 +11,4 @@ pub mod Equal
 pub mod Different
 pub mod Deciding
 pub mod Overlaps
+pub mod ClosedSums

@@ -19,7 +19,7 @@ root2_none : (c : Number) (j : ℤ) → c j ≡ root2 0 c j
 unfolding root2
 root2_none c j = refl
 
-one_path : (m : ℕ) → m ≡ 0 → (F : Truths → ℤ) → total m F ≡ F []
+pub one_path : (m : ℕ) → m ≡ 0 → (F : Truths → ℤ) → total m F ≡ F []
 unfolding total
 one_path m e F = ap (λ k. total k F) e
 

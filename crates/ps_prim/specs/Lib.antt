@@ -5,3 +5,6 @@ pub mod Sums
 pub mod SumLaws
 pub mod Columns
 pub mod Overlaps
+pub mod Items
+pub mod Closed
+pub mod AmplitudeLaws

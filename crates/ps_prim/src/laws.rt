@@ -1,9 +1,20 @@
 //! The laws of lists of prims. Each function does nothing, and its clauses are laws with their proofs.
 
 ghost use Rattle.ps_prim.specs.Plain.{PlainEmpty, PlainCx, PlainTurn, PlainSame, PlainOutputDiffers, PlainPhaseDiffers};
+ghost use Rattle.ps_prim.specs.AmplitudeLaws.{AmplitudeEmpty, AmplitudeLast, AmplitudeAppend, TurnsAppend, AmplitudeIsNumber};
+ghost use Rattle.ps_prim.specs.Closed.{VanishingIsZero, ZeroIsNotOne, PlainIsOne, OneIsPlain};
 ghost use Rattle.ps_prim.specs.Columns.{PrimKeepsInner, OwnInnerIsOne, OneIsSame, SameIsOne};
 ghost use Rattle.ps_prim.specs.SumLaws.{PlainDenotes, IdentityDenotes, LeafDenotes, JoinDenotes};
 ghost use Rattle.ps_prim.specs.Overlaps.{OverlapIsInner, OverlapDenotes, OverlapOne, OverlapNotOne, PhaseIsOne};
+
+/// The amplitude of a list of gates by its last gate, and that it is a number.
+pub fn amplitude_law()
+    ensures empty { AmplitudeEmpty }
+    ensures last { AmplitudeLast }
+    ensures append { AmplitudeAppend }
+    ensures turns { TurnsAppend }
+    ensures number { AmplitudeIsNumber }
+{}
 
 /// Controlled nots and `U` at theta 0 only permute the basis inputs and turn phases, and so two
 /// lists of them are one map exactly where their outputs and their phases are equal.
@@ -41,4 +52,12 @@ pub fn overlap_law()
     ensures one { OverlapOne }
     ensures not_one { OverlapNotOne }
     ensures phase { PhaseIsOne }
+{}
+
+/// When a closed sum stands for 0, and when one without path variables stands for 1.
+pub fn closed_law()
+    ensures vanishing { VanishingIsZero }
+    ensures zero { ZeroIsNotOne }
+    ensures plain { PlainIsOne }
+    ensures one { OneIsPlain }
 {}

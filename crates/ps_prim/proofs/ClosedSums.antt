@@ -1,0 +1,78 @@
+-- Closed path sums: 0 and 1.
+use mathlib.Core.Path.{fun_ext}
+use Rattle.std.proofs.Common.{◌≡◌, ℕ, zero, suc, ◌+◌, ◌%◌, refl, ap, ap₂, sym, ◌∙◌, arith, false, []}
+use Rattle.std.proofs.Math.IntN.{ℤ, pos, ◌+ℤ◌, ◌-ℤ◌, neg_ℤ, +ℤ_idr}
+use Rattle.std.proofs.lemmas.Int.{ints}
+use Rattle.ps_ring.specs.Numbers.{Number, IsNumber, one, when, sqrt2, root2, above}
+use Rattle.ps_ring.specs.Sums.{total, insert_at, PathValues, signed_count}
+use Rattle.ps_ring.proofs.Turned.{one_number, turned_same}
+use Rattle.ps_ring.proofs.Ones.{one_first}
+use Rattle.ps_ring.proofs.Roots.{root2_cancel, same_path, same_from}
+use Rattle.ps_ring.proofs.Whens.{when-neg}
+use Rattle.ps_ring.proofs.Totals.{total_ext, total_pull, total_zero}
+use Rattle.ps_ring.proofs.StepLaws.{signed_number}
+use Rattle.ps_prim.specs.Amplitudes.{Truths, same_bits}
+use Rattle.ps_prim.specs.Closed.{VanishingIsZero, ZeroIsNotOne, PlainIsOne, OneIsPlain}
+use Rattle.ps_prim.proofs.PlainSums.{one_path}
+use Rattle.ps_prim.proofs.Different.{phase_is_one}
+
+-- half a turn more is the opposite
+half_more : (p p' : ℕ) → p' % 4294967296 ≡ (p + 2147483648) % 4294967296 → (j : ℤ) → one (j -ℤ pos p') ≡ neg_ℤ (one (j -ℤ pos p))
+half_more p p' e j =
+    let a : j -ℤ pos p ≡ j -ℤ pos (p + 2147483648) +ℤ pos 2147483648 = omega (arith, ints) in
+    let h : one (j -ℤ pos p) ≡ neg_ℤ (one (j -ℤ pos (p + 2147483648))) = ap one a ∙ one_number (j -ℤ pos (p + 2147483648)) in
+    let t = turned_same one one_number p' (p + 2147483648) e j in
+    omega (arith, ints)
+
+opposites_cancel : (a b : ℤ) → b ≡ neg_ℤ a → a +ℤ b ≡ pos 0
+opposites_cancel a b e = omega (arith, ints)
+
+pub vanishing_is_zero : VanishingIsZero
+unfolding signed_count
+vanishing_is_zero S x m i v z j =
+    ap (λ n. total n (λ y. when (same_bits (S.outs x y) z) (one (j -ℤ pos (S.phase x y))))) v.m_is
+    ∙ total_pull m i v.at _
+    ∙ total_ext m _ (λ y. pos 0) (λ y ly.
+    opposites_cancel _ _ (ap₂ (λ o r. when (same_bits o z) r) (v.idle y ly) (half_more _ _ (v.flips y ly) j) ∙ when-neg (same_bits (S.outs x (insert_at i false y)) z) (one (j -ℤ pos (S.phase x (insert_at i false y))))))
+    ∙ total_zero m
+
+nothing : Number
+nothing j = pos 0
+
+nothing_number : IsNumber nothing
+unfolding nothing
+nothing_number j = refl
+
+root2_nothing : (e : ℕ) → root2 e nothing ≡ nothing
+unfolding root2 sqrt2 nothing
+root2_nothing zero = refl
+root2_nothing (suc e) = ap sqrt2 (root2_nothing e)
+
+pub zero_is_not_one : ZeroIsNotOne
+unfolding nothing
+zero_is_not_one S x h o =
+    let c : signed_count S x [] ≡ nothing = fun_ext h in
+    let r : root2 (above (pos 0) S.k) nothing ≡ root2 (above (pos 0) S.k) one
+    = root2_nothing (above (pos 0) S.k) ∙ sym (root2_nothing (above S.k (pos 0))) ∙ ap (root2 (above S.k (pos 0))) (sym c) ∙ same_path S.k (pos 0) (signed_count S x []) one o in
+    let e : pos 0 ≡ pos 1 = ap (λ u. u (pos 0)) (root2_cancel (above (pos 0) S.k) nothing one nothing_number one_number r) ∙ one_first in
+    cc
+
+when_closed : (v : ℤ) → when (same_bits [] []) v ≡ v
+unfolding when same_bits
+when_closed v = refl
+
+-- without path variables there is one path
+alone : (S : PathValues) (x : Truths) → S.m ≡ 0 → S.outs x [] ≡ [] → (j : ℤ) → signed_count S x [] j ≡ one (j -ℤ pos (S.phase x []))
+unfolding signed_count
+alone S x m o j = one_path S.m m _ ∙ ap (λ w. when (same_bits w []) (one (j -ℤ pos (S.phase x [])))) o ∙ when_closed _
+
+pub plain_is_one : PlainIsOne
+unfolding root2
+plain_is_one S x m o k p =
+    same_from S.k (pos 0) 0 0 (signed_count S x []) one (signed_number S x []) one_number (ap (λ r. pos 0 +ℤ r) k)
+    (fun_ext (λ j. alone S x m o j ∙ turned_same one one_number (S.phase x []) 0 p j ∙ ap one (+ℤ_idr j)))
+
+pub one_is_plain : OneIsPlain
+one_is_plain S x m o h =
+    let c : signed_count S x [] ≡ (λ j. one (j -ℤ pos (S.phase x []))) = fun_ext (alone S x m o) in
+    phase_is_one S.k (S.phase x []) (λ j. ap (λ u. root2 (above S.k (pos 0)) u j) (sym c) ∙ h j)

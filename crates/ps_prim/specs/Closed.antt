@@ -1,0 +1,29 @@
+-- Closed path sums: when they stand for 0, and when those without path variables stand for 1.
+use Rattle.std.specs.Prelude.{ℕ, suc, ◌≡◌, ◌≤◌, ◌+◌, ◌%◌, true, false, [], length}
+use Rattle.std.proofs.Math.IntN.{ℤ, pos}
+use Rattle.ps_ring.specs.Sums.{insert_at, PathValues, signed_count}
+use Rattle.ps_prim.specs.Amplitudes.{Truths}
+use Rattle.ps_prim.specs.Overlaps.{IsOne}
+
+-- at x the path variable at place i turns the phase by half a turn, whatever the other m path variables are,
+-- and no output knows it
+pub record VanishesAt (S : PathValues) (x : Truths) (m i : ℕ) : Type 0 where
+  pub m_is : S.m ≡ suc m
+  pub at : i ≤ m
+  pub flips : (y : Truths) → length y ≡ m → S.phase x (insert_at i true y) % 4294967296 ≡ (S.phase x (insert_at i false y) + 2147483648) % 4294967296
+  pub idle : (y : Truths) → length y ≡ m → S.outs x (insert_at i true y) ≡ S.outs x (insert_at i false y)
+
+-- then the sum is 0 there
+abbrev pub VanishingIsZero : Type 0
+VanishingIsZero = (S : PathValues) (x : Truths) (m i : ℕ) → VanishesAt S x m i → (z : Truths) (j : ℤ) → signed_count S x z j ≡ pos 0
+
+-- and so not 1
+abbrev pub ZeroIsNotOne : Type 0
+ZeroIsNotOne = (S : PathValues) (x : Truths) → ((j : ℤ) → signed_count S x [] j ≡ pos 0) → ¬ (IsOne S x)
+
+-- without path variables the sum is 1 just where its scale is 0 and its phase is no turn
+abbrev pub PlainIsOne : Type 0
+PlainIsOne = (S : PathValues) (x : Truths) → S.m ≡ 0 → S.outs x [] ≡ [] → S.k ≡ pos 0 → S.phase x [] % 4294967296 ≡ 0 → IsOne S x
+
+abbrev pub OneIsPlain : Type 0
+OneIsPlain = (S : PathValues) (x : Truths) → S.m ≡ 0 → S.outs x [] ≡ [] → IsOne S x → (S.k ≡ pos 0) × (S.phase x [] % 4294967296 ≡ 0)
