@@ -129,6 +129,7 @@ input_below n v o h e = by (cases_lt v n)
   where
     off : false ≡ true → ⊥
     off e = cc
+
     by : ((v < n) ⊎ (n ≤ v)) → v < n
     by (inl l) = l
     by (inr l) = absurd (off (sym (h l) ∙ e))
@@ -151,6 +152,7 @@ differs_phase n A B m wa wb pa pb o w =
     at_point : phase_value (record { mono = m; phase = w.turn } ∷ w.rest) (bit (input_of n m)) ≡ w.turn
     at_point = phase_agree (record { mono = m; phase = w.turn } ∷ w.rest) (bit (input_of n m)) (λ v. stands v m) (λ v o. bit-input n m v (input_below n v (phase_occurs v (record { mono = m; phase = w.turn } ∷ w.rest)) (w.difference.inputs v) o))
         ∙ value_at_least (record { mono = m; phase = w.turn }) w.rest w.difference.form
+
     clash : (a b t : ℕ) → t ≢ 0 → t < 4294967296 → t % 4294967296 ≡ (b + (4294967296 - a % 4294967296)) % 4294967296 → a % 4294967296 ≡ b % 4294967296 → ⊥
     clash a b t z s e f = z (omega arith)
 

@@ -100,6 +100,7 @@ phase_occurs-append v (t ∷ f) g a b = by (stands v t.mono) (phase_occurs v f) 
   where
     off : true ≡ false → ⊥
     off e = cc
+
     by : (p q : Bool) → (p || q) ≡ false → (q ≡ false → phase_occurs v (f ++ g) ≡ false) → (p || phase_occurs v (f ++ g)) ≡ false
     by true q e h = absurd (off e)
     by false q e h = h e
@@ -122,14 +123,19 @@ composed_cx n A outs phase waiting c t p w cn tn d form value variables = record
   where
     add_nothing : (k : ℕ) → k + 0 ≡ k
     add_nothing k = omega arith
+
     last : (x : Truths) → outputs_of (A ++ (Cx c t ∷ [])) x ≡ exchanged c t (outputs_of A x)
     last x = outputs-append A (Cx c t ∷ []) x
+
     wide : (x : Truths) → length x ≡ n → t < length (outputs_of A x)
     wide x l = let e = length-outputs A x in omega arith
+
     there : (x : Truths) → length x ≡ n → bit (outputs_of (A ++ (Cx c t ∷ [])) x) t ≡ differ (bit (outputs_of A x) t) (bit (outputs_of A x) c)
     there x l = ap (λ z. bit z t) (last x) ∙ exchanged_at c t (outputs_of A x) (wide x l)
+
     elsewhere : (q : ℕ) → q ≢ t → (x : Truths) → bit (outputs_of (A ++ (Cx c t ∷ [])) x) q ≡ bit (outputs_of A x) q
     elsewhere q e x = ap (λ z. bit z q) (last x) ∙ exchanged_elsewhere c t q (outputs_of A x) e
+
     at_output : (q : ℕ) → q < n → (q ≡ t) ⊎ (q ≡ t → ⊥) → IsPolyOf n (λ x. bit (outputs_of (A ++ (Cx c t ∷ [])) x) q) (get_or (set outs t p) q [])
     at_output q h (inl e) =
         let r : t < length outs = omega (arith, w.width) in
@@ -165,17 +171,20 @@ composed_turn n A outs phase waiting lifted phi lambda by q w qn same lift lift_
   phase_inputs = w.phase_inputs;
   waiting_inputs = λ v l. phase_occurs-append v waiting lifted (w.waiting_inputs v l) (lifted_inputs lifted (get_or outs q []) v ((w.output q qn).inputs v l) (lift_variables v));
   value = λ x l. added (phase_value phase (bit x)) (phase_value waiting (bit x)) (phase_value lifted (bit x)) (phase_value (waiting ++ lifted) (bit x)) (turn_of A x) (cond (bit (outputs_of A x) q) (2 * phi + 2 * lambda) 0)
-        (phase_append waiting lifted (bit x)) (w.value x l)
-        (lift (bit x) ∙ ap (λ b. times b by % 4294967296) ((w.output q qn).value x l) ∙ reduced (bit (outputs_of A x) q))
-        ∙ ap (λ k. k % 4294967296) (sym (more x));
+      (phase_append waiting lifted (bit x)) (w.value x l)
+      (lift (bit x) ∙ ap (λ b. times b by % 4294967296) ((w.output q qn).value x l) ∙ reduced (bit (outputs_of A x) q))
+      ∙ ap (λ k. k % 4294967296) (sym (more x));
 }
   where
     last : (x : Truths) → outputs_of (A ++ (U 0 phi lambda q ∷ [])) x ≡ outputs_of A x
     last x = outputs-append A (U 0 phi lambda q ∷ []) x
+
     more : (x : Truths) → turn_of (A ++ (U 0 phi lambda q ∷ [])) x ≡ turn_of A x + cond (bit (outputs_of A x) q) (2 * phi + 2 * lambda) 0
     more x = turn-append A (U 0 phi lambda q ∷ []) x ∙ omega arith
+
     added : (p w l s k r : ℕ) → s ≡ w + l → (p + w) % 4294967296 ≡ k % 4294967296 → l % 4294967296 ≡ r % 4294967296 → (p + s) % 4294967296 ≡ (k + r) % 4294967296
     added p w l s k r d e f = omega arith
+
     reduced : (b : Bool) → times b by % 4294967296 ≡ cond b (2 * phi + 2 * lambda) 0 % 4294967296
     reduced true = omega (arith, same)
     reduced false = refl
@@ -304,8 +313,8 @@ turned n A outs phase waiting lifted waiting' theta phi lambda q wphi wlambda by
     subst (λ (g : Prim). IsPartial n (A ++ (g ∷ [])) outs phase waiting') (sym (p ∙ ap (λ k. U k phi lambda q) z))
     (subst (λ (ts : List Term). IsPartial n (A ++ (U 0 phi lambda q ∷ [])) outs phase ts) (sym k)
     (composed_turn n A outs phase waiting lifted phi lambda by q w (omega (arith, inside, w.width)) same
-        (λ a. lift a ∙ ap (λ g. times (bool_value g a) by % 4294967296) read)
-        (λ v h. ap (occurs v) (sym read) ∙ lift_variables v h)))
+    (λ a. lift a ∙ ap (λ g. times (bool_value g a) by % 4294967296) read)
+    (λ v h. ap (occurs v) (sym read) ∙ lift_variables v h)))
 
 -- the step of a controlled not
 pub flipped_outputs : (n : ℕ) (A : List Prim) (outs new : List (List (List ℕ))) (phase waiting : List Term) (c t : ℕ) (prim : Prim) → prim ≡ Cx c t → Exchanged outs new c t → IsWithin (length outs) prim → IsPartial n A outs phase waiting

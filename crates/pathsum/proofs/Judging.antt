@@ -79,9 +79,10 @@ one_word f (v ∷ u ∷ ws) w l e = absurd (omega arith)
 pub one_decides : {X : Type 0} (f : X → List ℕ) (ws : List X) (w : X) (t text : List ℕ) (r : Bool) → length ws ≡ 1 → w ≡ get_or ws 0 w → text ≡ f w → r ≡ bytes_eq text t
     → (r ≡ true → map f ws ≡ t ∷ []) × (map f ws ≡ t ∷ [] → r ≡ true)
 one_decides f ws w t text r l e s d =
-    let o = one_word f ws w l e in
-    (λ h. o ∙ ap (λ (x : List ℕ). x ∷ []) (sym s ∙ (bytes_eq-Decides text t).0 (sym d ∙ h)),
-     λ h. d ∙ (bytes_eq-Decides text t).1 (s ∙ head (sym o ∙ h)))
+    let o = one_word f ws w l e in (
+      λ h. o ∙ ap (λ (x : List ℕ). x ∷ []) (sym s ∙ (bytes_eq-Decides text t).0 (sym d ∙ h)),
+      λ h. d ∙ (bytes_eq-Decides text t).1 (s ∙ head (sym o ∙ h)),
+    )
   where
     head : {x y : List ℕ} → x ∷ [] ≡ y ∷ [] → x ≡ y
     head e = cc

@@ -11,14 +11,15 @@ mod input;
 mod plain;
 mod print;
 mod same;
+#[cfg(test)]
+mod tests;
 mod verdict;
 
-pub use ended::Ended;
-pub use same::same_run;
-
 use answer::Answer;
+pub use ended::Ended;
 use print::print;
 use ps_io::{Gate, OpenGate, Sink, Source, StdSink, StdSource};
+pub use same::same_run;
 use std::alloc::{AllocError, Global};
 use std::env;
 use std::io::ErrorKind;
@@ -26,7 +27,13 @@ use std::process::ExitCode;
 use std::rt::Env;
 
 /// Does what the words say, with the input from the source and what is printed to the sink.
-pub fn run<S: Source, W: Sink, G: Gate + Sync>(alloc: Global, words: &[String], source: &mut S, sink: &mut W, _gate: &G) -> Ended
+pub fn run<S: Source, W: Sink, G: Gate + Sync>(
+    alloc: Global,
+    words: &[String],
+    source: &mut S,
+    sink: &mut W,
+    _gate: &G,
+) -> Ended
     ensures { Ends (Answers (map string_bytes words.now) (S.remaining source.old) (S.faults source.old) (S.faults source.new)) (W.held sink.old) (W.held sink.new) (W.faults sink.old) (W.faults sink.new) result.status }
 {
     if is_same(words) {

@@ -14,7 +14,12 @@ use ps_prim::Prim;
 use std::alloc::{AllocError, Global};
 
 /// Whether two lists of prims on the same qubits are one linear map, and if not, where they differ.
-pub fn compare(alloc: Global, qubits: u32, first: &[Prim], second: &[Prim]) -> Result<Answer, AllocError>
+pub fn compare(
+    alloc: Global,
+    qubits: u32,
+    first: &[Prim],
+    second: &[Prim],
+) -> Result<Answer, AllocError>
     requires few { qubits ≤ 64 }
     requires first_within { AllWithin qubits first.now }
     requires second_within { AllWithin qubits second.now }
