@@ -3,3 +3,7 @@ pub mod Merges
 pub mod Unique
 pub mod Variables
 pub mod Values
+pub mod Products
+pub mod Cancelling
+pub mod Replacing
+pub mod Laws

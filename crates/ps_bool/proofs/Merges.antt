@@ -1,49 +1,17 @@
 -- Two ascending lists of monomials merged, where what stands in both goes.
-use Rattle.std.proofs.Common.{◌≡◌, ℕ, ◌+◌, refl, ap, ap₂, sym, ◌∙◌, arith, ◌<◌, ◌≤◌, Bool, true, false, List, [], ◌∷◌, ◌++◌, length, drop, get_or, drop-cons, add-one, drop_of_length-le, append-nil, append_assoc, length-drop, take, ◌-◌, ◌⊎◌, inl, inr, Ordering, Less, Equal, Greater}
+use Rattle.std.proofs.Common.{◌≡◌, ℕ, ◌+◌, refl, ap, ap₂, sym, ◌∙◌, arith, ◌<◌, ◌≤◌, Bool, false, List, [], ◌∷◌, ◌++◌, length, drop, get_or, drop-cons, add-one, drop_of_length-le, append-nil, append_assoc, length-drop, take, ◌-◌, ◌⊎◌, inl, inr, Ordering, Less, Equal, Greater}
 use Rattle.std.proofs.lemmas.List.{take_all}
 use Rattle.ps_mono.specs.Sets.{mono_cmp, holds, IsVarSet}
 use Rattle.ps_bool.specs.Polys.{bool_value, Before, Ascending, Each, IsPoly}
 use Rattle.ps_bool.specs.Merging.{pick, weave, merge}
 use Rattle.ps_mono.specs.Truth.{differ}
+use Rattle.ps_bool.proofs.Bools.{differ_cross, differ_far, differ_twice, differ_none}
 use Rattle.ps_mono.proofs.Orders.{mono_equal, mono_flip, mono_trans}
 
 abbrev pub Mono : Type 0
 Mono = List ℕ
 
 -- ---- values
-differ_cross : (h p q : Bool) → differ h (differ p q) ≡ differ (differ h p) q
-unfolding differ
-differ_cross true true true = refl
-differ_cross true true false = refl
-differ_cross true false true = refl
-differ_cross true false false = refl
-differ_cross false true true = refl
-differ_cross false true false = refl
-differ_cross false false true = refl
-differ_cross false false false = refl
-
-differ_far : (h p q : Bool) → differ h (differ p q) ≡ differ p (differ h q)
-unfolding differ
-differ_far true true true = refl
-differ_far true true false = refl
-differ_far true false true = refl
-differ_far true false false = refl
-differ_far false true true = refl
-differ_far false true false = refl
-differ_far false false true = refl
-differ_far false false false = refl
-
-differ_twice : (h p q : Bool) → differ p q ≡ differ (differ h p) (differ h q)
-unfolding differ
-differ_twice true true true = refl
-differ_twice true true false = refl
-differ_twice true false true = refl
-differ_twice true false false = refl
-differ_twice false true true = refl
-differ_twice false true false = refl
-differ_twice false false true = refl
-differ_twice false false false = refl
-
 pick_value : (o : Ordering) (a : ℕ → Bool) (r : Bool) (u v w : List Mono) → (o ≡ Less → bool_value u a ≡ r) → (o ≡ Equal → bool_value v a ≡ r) → (o ≡ Greater → bool_value w a ≡ r) → bool_value (pick o u v w) a ≡ r
 unfolding pick
 pick_value Less a r u v w l e g = l refl
@@ -57,11 +25,6 @@ weave_value x rest a p h (y ∷ ys) = pick_value (mono_cmp x y) a _ _ _ _
     (λ l. ap (differ (holds x a)) (h (y ∷ ys)) ∙ differ_cross (holds x a) p (differ (holds y a) (bool_value ys a)))
     (λ e. h ys ∙ differ_twice (holds y a) p (bool_value ys a) ∙ ap (λ (m : Mono). differ (differ (holds m a) p) (differ (holds y a) (bool_value ys a))) (sym (mono_equal x y e)))
     (λ g. ap (differ (holds y a)) (weave_value x rest a p h ys) ∙ differ_far (holds y a) (differ (holds x a) p) (bool_value ys a))
-
-differ_none : (b : Bool) → b ≡ differ false b
-unfolding differ
-differ_none true = refl
-differ_none false = refl
 
 pub merge_value : (xs ys : List Mono) (a : ℕ → Bool) → bool_value (merge xs ys) a ≡ differ (bool_value xs a) (bool_value ys a)
 unfolding merge bool_value

@@ -37,7 +37,7 @@ one_form (m ∷ f) (k ∷ g) p q e = by (λ d. one_form f g (rest m f p) (rest k
     by ih Greater o = absurd (true_is_not_false (sym (bool_value-least k g q) ∙ sym (e (λ v. stands v k)) ∙ later_off k (m ∷ f) q.sets.0 p.sets (mono_flip m k o, before_before k m f (mono_flip m k o) p.in_order.0)))
 
 -- ---- assignments that agree at each variable that occurs give one value
-holds_agree : (m : List ℕ) (a b : ℕ → Bool) → ((v : ℕ) → stands v m ≡ true → a v ≡ b v) → holds m a ≡ holds m b
+pub holds_agree : (m : List ℕ) (a b : ℕ → Bool) → ((v : ℕ) → stands v m ≡ true → a v ≡ b v) → holds m a ≡ holds m b
 unfolding holds stands
 holds_agree [] a b h = refl
 holds_agree (u ∷ m) a b h =

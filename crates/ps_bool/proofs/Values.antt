@@ -61,7 +61,7 @@ unfolding bool_value
 odd_end ms i a b h e = sym (e ∙ ap (λ (r : List Mono). differ b (bool_value r a)) (drop_of_length-le ms h) ∙ none_after b)
 
 -- ---- whether a variable occurs
-occurs_step : (v : ℕ) (f : List Mono) (i : ℕ) (d : Mono) → i < length f → occurs v (drop i f) ≡ (stands v (get_or f i d) || occurs v (drop (i + 1) f))
+pub occurs_step : (v : ℕ) (f : List Mono) (i : ℕ) (d : Mono) → i < length f → occurs v (drop i f) ≡ (stands v (get_or f i d) || occurs v (drop (i + 1) f))
 unfolding occurs
 occurs_step v f i d h = rw (add-one, drop-cons f i d) refl
 
@@ -81,7 +81,7 @@ least_value [] g m eg p h e = absurd (omega arith)
 least_value (k ∷ f) g m eg p h e = ap₂ (λ (x : List Mono) (y : Mono). bool_value x (λ v. stands v y)) (sym eg) e ∙ bool_value-least k f p
 
 -- ---- equality
-mono_eq : (m k : Mono) → Decides (pointwise nat_eq m k) (m ≡ k)
+pub mono_eq : (m k : Mono) → Decides (pointwise nat_eq m k) (m ≡ k)
 mono_eq m k = slice_eq-Decides Decides-eqb m k (pointwise nat_eq m k) refl
 
 same_list : (r : Bool) (f g : List Mono) → r ≡ pointwise (pointwise nat_eq) f g → Decides r (f ≡ g)

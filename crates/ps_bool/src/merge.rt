@@ -9,7 +9,7 @@ use std::cmp::Ordering;
 pub fn merged(alloc: Global, xs: &[Mono], ys: &[Mono]) -> Result<Vec<Mono>, AllocError>
     ensures { IfOk result (λ v. v.items ≡ merge xs.now ys.now) }
 {
-    let mut out = Vec::new(alloc);
+    let mut out = Vec::with_capacity(alloc, xs.len() + ys.len())?;
     let mut i = 0;
     let mut j = 0;
     while i < xs.len() && j < ys.len() {

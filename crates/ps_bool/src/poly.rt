@@ -1,8 +1,9 @@
-ghost use Rattle.std.specs.Prelude.{◌≡◌, ℕ, ◌<◌, ◌↔◌, Bool, true, ◌||◌, [], ◌∷◌, length, slice_get, Some, Ok, IsTrue, IfOk, IsNone, IfSome};
+ghost use Rattle.std.specs.Prelude.{◌≡◌, ℕ, ◌<◌, ◌↔◌, Bool, true, false, not, cond, ◌&&◌, ◌||◌, [], ◌∷◌, nat_eq, filter, length, slice_get, Some, Ok, IsTrue, IfOk, IsNone, IfSome};
 ghost use Rattle.ps_mono.specs.Sets.{stands, IsVarSet};
-ghost use Rattle.ps_mono.specs.Truth.{differ};
+ghost use Rattle.ps_mono.specs.Truth.{differ, with_value};
 ghost use Rattle.ps_bool.specs.Polys.{bool_value, occurs, IsPoly};
 
+use super::gather::{cancel_pairs, products, replaced, without_variable};
 use super::merge::merged;
 use ps_mono::{Bits, Mono};
 use std::alloc::{AllocError, Global};
@@ -62,6 +63,18 @@ impl BoolPoly {
         Ok(BoolPoly { monos })
     }
 
+    /// The sum modulo 2 of monomials in any order, which may repeat. It sorts them once.
+    pub fn sum_of(monos: Vec<Mono>) -> BoolPoly
+        ensures value { (a : ℕ → Bool) → bool_value result a ≡ bool_value monos.items a }
+        ensures variables { (v : ℕ) → occurs v result ≡ true → occurs v monos.items ≡ true }
+        ensures form { IsPoly result }
+    {
+        let mut monos = monos;
+        monos.sort_unstable();
+        cancel_pairs(&mut monos);
+        BoolPoly { monos }
+    }
+
     /// The sum modulo 2, by one merge of the two lists.
     pub fn xor(&self, other: &BoolPoly) -> Result<BoolPoly, AllocError>
         ensures value { IfOk result (λ p. (a : ℕ → Bool) → bool_value p a ≡ differ (bool_value self.now a) (bool_value other.now a)) }
@@ -70,6 +83,33 @@ impl BoolPoly {
     {
         let monos = merged(*self.monos.allocator(), &self.monos, &other.monos)?;
         Ok(BoolPoly { monos })
+    }
+
+    /// The product.
+    pub fn and(&self, other: &BoolPoly) -> Result<BoolPoly, AllocError>
+        ensures value { IfOk result (λ p. (a : ℕ → Bool) → bool_value p a ≡ (bool_value self.now a && bool_value other.now a)) }
+        ensures variables { IfOk result (λ p. (v : ℕ) → occurs v p ≡ true → (occurs v self.now || occurs v other.now) ≡ true) }
+        ensures form { IfOk result (λ p. IsPoly p) }
+    {
+        let products = products(*self.monos.allocator(), &self.monos, &other.monos)?;
+        Ok(BoolPoly::sum_of(products))
+    }
+
+    /// The polynomial with `by` in place of variable `v`, which is below 512. Where `v` stands in `by`,
+    /// it keeps its meaning there. Only the monomials with `v` are multiplied out and sorted; the
+    /// others are merged in.
+    pub fn subst(&self, v: u16, by: &BoolPoly) -> Result<BoolPoly, AllocError>
+        requires { v < 512 }
+        ensures value { IfOk result (λ p. (a : ℕ → Bool) → bool_value p a ≡ bool_value self.now (with_value a v (bool_value by.now a))) }
+        ensures variables { IfOk result (λ p. (u : ℕ) → occurs u p ≡ true → ((occurs u self.now && not (nat_eq u v)) || occurs u by.now) ≡ true) }
+        ensures form { IfOk result (λ p. IsPoly p) }
+    {
+        let alloc = *self.monos.allocator();
+        let kept = without_variable(alloc, &self.monos, v)?;
+        let replaced = BoolPoly::sum_of(replaced(alloc, &self.monos, v, &by.monos)?);
+        Ok(BoolPoly {
+            monos: merged(alloc, &kept, &replaced.monos)?,
+        })
     }
 
     /// The same polynomial, in memory of its own.
@@ -135,6 +175,24 @@ impl BoolPoly {
             }
         }
         false
+    }
+
+    /// Whether variable `v`, which is below 512, stands in one monomial alone and that monomial is
+    /// `v` alone.
+    pub fn linear_in(&self, v: u16) -> bool
+        requires { v < 512 }
+        ensures { IsTrue result ↔ (filter (λ m. stands v m) self.now ≡ (v ∷ []) ∷ []) }
+    {
+        let mut found = false;
+        for mono in &self.monos {
+            if mono.contains(v) {
+                if found || mono.degree() != 1 {
+                    return false;
+                }
+                found = true;
+            }
+        }
+        found
     }
 
     /// The value at an assignment.

@@ -25,3 +25,25 @@ fn sums(rt: HostRuntime) -> Result<(), Fail> {
     assert!(rt; sum.xor(&sum)?.same(&BoolPoly::zero(alloc)));
     Ok(())
 }
+
+// Products, substitutions and whether a variable stands alone.
+#[test]
+fn products(rt: HostRuntime) -> Result<(), Fail> {
+    let alloc = rt.alloc();
+    let one = BoolPoly::one(alloc)?;
+    let first = BoolPoly::var(alloc, 0)?;
+    let second = BoolPoly::var(alloc, 1)?;
+    let both = BoolPoly::of(alloc, &Mono::var(0).union(&Mono::var(1)))?;
+    // (x0 + x1) (x0 + 1) is x1 + x0 x1
+    let product = first.xor(&second)?.and(&first.xor(&one)?)?;
+    let expected = second.xor(&both)?;
+    assert!(rt; product.same(&expected));
+    // x0 x1 + x1 with x0 + 1 for x1 is 1 + x0
+    let replaced = expected.subst(1, &first.xor(&one)?)?;
+    assert!(rt; replaced.same(&one.xor(&first)?));
+    assert!(rt; !expected.linear_in(1));
+    assert!(rt; first.xor(&second)?.linear_in(1));
+    let twice = vec![in alloc; Mono::var(1), Mono::one(), Mono::var(1)]?;
+    assert!(rt; BoolPoly::sum_of(twice).same(&one));
+    Ok(())
+}

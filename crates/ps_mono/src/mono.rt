@@ -1,4 +1,4 @@
-ghost use Rattle.std.specs.Prelude.{◌≡◌, ℕ, ◌<◌, [], ◌∷◌, ◌&&◌, ◌||◌, not, nat_eq, length, get_or, Ok, IsOkAnd};
+ghost use Rattle.std.specs.Prelude.{◌≡◌, ℕ, ◌<◌, [], ◌∷◌, ◌&&◌, ◌||◌, not, nat_eq, length, get_or, Ok, IsOkAnd, IsNone, IfSome, ◌↔◌};
 ghost use Rattle.std.specs.Cmp.{partial_equiv_from_equiv};
 ghost use Rattle.std.specs.Cmp.Lexicographic.{pointwise, slice_cmp};
 ghost use Rattle.std.specs.Ordering.{nat_cmp, as_partial_cmp};
@@ -184,6 +184,21 @@ impl Mono {
             left -= count;
         }
         unreachable!()
+    }
+
+    /// The least variable, and the monomial without it; `None` for the empty product.
+    pub fn split_first(&self) -> Option<(u16, Mono)>
+        ensures none { IsNone result ↔ (self.now ≡ []) }
+        ensures split { IfSome result (λ p. self.now ≡ p.0 ∷ p.1) }
+        ensures small { IfSome result (λ p. p.0 < 512) }
+        ensures form { IfSome result (λ p. IsVarSet p.1) }
+    {
+        if self.degree() == 0 {
+            return None;
+        }
+        self.known();
+        let first = self.var_at(0);
+        Some((first, self.removed(first)))
     }
 
     /// The order of monomials: by degree, and at one degree by the ascending lists of variables, the

@@ -21,6 +21,7 @@ fn products(rt: HostRuntime) -> Result<(), Fail> {
 #[test]
 fn words(rt: HostRuntime) -> Result<(), Fail> {
     let wide = Mono::var(511).union(&Mono::var(64));
+    assert_eq!(rt; wide.split_first(), Some((64, Mono::var(511))));
     assert!(rt; wide.contains(511));
     assert!(rt; !wide.contains(63));
     assert!(rt; Mono::one() < Mono::var(511));
