@@ -1,5 +1,5 @@
 -- Decimal numbers.
-use Rattle.std.proofs.Common.{◌≡◌, ℕ, suc, zero, ◌+◌, ◌*◌, ◌/◌, ◌%◌, ◌^◌, ◌<◌, ◌≤◌, true, false, arith, sym, ◌∙◌, ap, subst, Result, Ok, Err}
+use Rattle.std.proofs.Common.{◌≡◌, ℕ, suc, zero, ◌+◌, ◌*◌, ◌/◌, ◌%◌, ◌^◌, ◌<◌, ◌≤◌, true, false, arith, sym, ◌∙◌, ap, subst, Result, Err}
 use Rattle.std.specs.Prelude.{ℤ, pos, negsuc, nat_abs}
 use lib.Signed.{lt_z}
 use Rattle.std.proofs.lemmas.Nat.{mul-le, div-add-mod'}

@@ -1,8 +1,8 @@
 -- Powers of dyadic numbers.
-use Rattle.std.proofs.Common.{◌≡◌, ℕ, suc, zero, ◌+◌, ◌-◌, ◌*◌, ◌/◌, ◌%◌, ◌^◌, ◌<◌, ◌≤◌, ◌⊎◌, inl, inr, Bool, true, false, not, ◌&&◌, nat_eq, arith, refl, sym, ◌∙◌, ap, subst, Result, Ok, Err}
+use Rattle.std.proofs.Common.{◌≡◌, ℕ, suc, zero, ◌+◌, ◌*◌, ◌/◌, ◌%◌, ◌^◌, ◌<◌, ◌≤◌, ◌⊎◌, inl, inr, Bool, true, false, not, ◌&&◌, nat_eq, arith, refl, sym, ◌∙◌, ap, subst, Result, Ok, Err}
 use Rattle.std.proofs.Math.IntN.{zero-*ℤ}
 use Rattle.std.proofs.Common.{lit<}
-use Rattle.std.specs.Prelude.{ℤ, pos, negsuc, nat_abs, neg_ℤ, ◌*ℤ◌}
+use Rattle.std.specs.Prelude.{ℤ, pos, negsuc, nat_abs, ◌*ℤ◌}
 use Rattle.std.proofs.lemmas.Bool.{cases_lt}
 use Rattle.std.proofs.lemmas.Bool.Decides.{nat_tests}
 use Rattle.std.proofs.lemmas.Nat.{pow-add, pow_pos, mul-pow, mul-le}
@@ -10,8 +10,7 @@ use Rattle.std.proofs.Math.Nat.{pow-zero, pow-suc, pow-le-pow_right, mod-eq_of_l
 use Rattle.qasm_angle.specs.declared.types.Dyadic.{Dyadic}
 use Rattle.qasm_angle.specs.declared.types.AngleFault.{AngleFault}
 use Rattle.qasm_angle.specs.declared.types.AngleFault.TheVariants.{NotDyadic, AngleRange, NoParameter, Function, ByZero, Memory}
-use Rattle.qasm_angle.specs.Lowest.{IsReduced}
-use Rattle.qasm_angle.specs.Fractions.{Stands, Exactly, RatioIs, IsRatio, to_power, signed, below_zero, InverseIs}
+use Rattle.qasm_angle.specs.Fractions.{Stands, Exactly, to_power, signed, below_zero, InverseIs}
 use Rattle.qasm_angle.proofs.Lowest.{cancel, abs_scaled, abs_signed, signed_self, out_of_bounds, beyond}
 use Rattle.qasm_angle.proofs.Signs.{unlike, signed_mul, below_signed, positive}
 use Rattle.qasm_angle.proofs.Ratios.{no_ratio, ratio_is}

@@ -1,13 +1,13 @@
 -- Quotients of dyadic numbers.
-use Rattle.std.proofs.Common.{◌≡◌, ◌≢◌, ℕ, suc, zero, ◌+◌, ◌-◌, ◌*◌, ◌/◌, ◌%◌, ◌^◌, ◌<◌, ◌≤◌, ◌⊎◌, inl, inr, Bool, true, false, arith, refl, sym, ◌∙◌, ap, subst, Result, Ok, Err}
-use Rattle.std.specs.Prelude.{ℤ, pos, negsuc, nat_abs, neg_ℤ, ◌*ℤ◌}
+use Rattle.std.proofs.Common.{◌≡◌, ℕ, ◌+◌, ◌*◌, ◌%◌, ◌^◌, ◌<◌, ◌⊎◌, inl, inr, Bool, arith, refl, sym, ◌∙◌, ap, subst, Result, Ok, Err}
+use Rattle.std.specs.Prelude.{ℤ, pos, nat_abs, ◌*ℤ◌}
 use Rattle.std.proofs.lemmas.Nat.{pow-add, pow_pos}
 use Rattle.std.proofs.Math.Nat.{mul-mod_left, zero-mul}
 use Rattle.qasm_angle.specs.declared.types.Dyadic.{Dyadic}
 use Rattle.qasm_angle.specs.declared.types.AngleFault.{AngleFault}
 use Rattle.qasm_angle.specs.declared.types.AngleFault.TheVariants.{NotDyadic, AngleRange, NoParameter, Function, ByZero, Memory}
-use Rattle.qasm_angle.specs.Fractions.{Stands, Exactly, IsRatio, RatioIs, signed, below_zero}
-use Rattle.qasm_angle.proofs.Lowest.{cancel, abs_signed, signed_self, abs_scaled}
+use Rattle.qasm_angle.specs.Fractions.{Exactly, IsRatio, RatioIs, signed, below_zero}
+use Rattle.qasm_angle.proofs.Lowest.{cancel, signed_self}
 use Rattle.qasm_angle.proofs.Signs.{unlike, signed_mul, same_signed, signed_same, unlike_back, unlike_forth, times_pos, scaled_side, positive}
 use Rattle.qasm_angle.proofs.Odd.{quotient_divides}
 

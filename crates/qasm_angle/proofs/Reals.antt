@@ -1,15 +1,15 @@
 -- Numbers without pi.
-use Rattle.std.proofs.Common.{◌≡◌, ℕ, ◌<◌, ◌≤◌, ◌+◌, suc, Bool, true, false, arith, refl, sym, ◌∙◌, ap, subst, Result, Ok, Err}
-use Rattle.std.proofs.Common.{◌^◌, ◌-◌}
+use Rattle.std.proofs.Common.{◌≡◌, ℕ, ◌<◌, ◌≤◌, suc, true, false, arith, refl, sym, ap, subst, Result, Ok, Err}
+use Rattle.std.proofs.Common.{◌^◌}
 use mir.Val.{of_z}
 use mir.Syntax.{w64}
 use Rattle.std.specs.Prelude.{ℤ, pos, negsuc, nat_abs}
 use Rattle.qasm_angle.specs.declared.types.Dyadic.{Dyadic}
 use Rattle.qasm_angle.specs.declared.types.Pair.{Pair}
 use Rattle.qasm_angle.specs.declared.types.AngleFault.{AngleFault}
-use Rattle.qasm_angle.specs.declared.types.AngleFault.TheVariants.{NotDyadic, ByZero}
+use Rattle.qasm_angle.specs.declared.types.AngleFault.TheVariants.{ByZero}
 use Rattle.qasm_angle.specs.Fractions.{below_zero, PowerIs, InverseIs}
-use Rattle.qasm_angle.specs.Pairs.{paired, OnReal, IsWhole, IsExponent, IsPower, pi_base, no_exponent, to_positive, of_zero, to_negative}
+use Rattle.qasm_angle.specs.Pairs.{paired, OnReal, IsWhole, IsPower, to_positive, of_zero, to_negative}
 
 pub on_real : (R : Result Dyadic AngleFault → Type 0) (r : Result Dyadic AngleFault) (z : Result Pair AngleFault) → R r → ((d : Dyadic) × IsWhole (pos 0) d × (z ≡ paired r (Ok d))) → OnReal R z
 on_real R r z h (d, w, e) = (r, Ok d, h, (d, w, refl), e)

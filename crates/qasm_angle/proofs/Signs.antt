@@ -1,9 +1,8 @@
 -- Integers by sign and magnitude.
-use Rattle.std.proofs.Common.{◌≡◌, ℕ, suc, zero, ◌+◌, ◌*◌, ◌<◌, ◌≤◌, ◌⊎◌, inl, inr, Bool, true, false, not, ◌&&◌, nat_eq, ◌%◌, ◌^◌, arith, refl, sym, ◌∙◌, ap, subst}
+use Rattle.std.proofs.Common.{◌≡◌, ℕ, suc, zero, ◌*◌, ◌<◌, ◌⊎◌, inl, inr, Bool, true, false, not, arith, refl, sym, ◌∙◌, ap}
 use mathlib.Core.Bool.{beq}
 use lib.Signed.{lt_z}
-use Rattle.std.proofs.lemmas.Bool.Decides.{nat_tests}
-use Rattle.std.specs.Prelude.{ℤ, pos, negsuc, nat_abs, neg_ℤ, ◌*ℤ◌}
+use Rattle.std.specs.Prelude.{ℤ, pos, nat_abs, neg_ℤ, ◌*ℤ◌}
 use Rattle.std.proofs.Math.Nat.{zero-mul, mul-zero}
 use Rattle.std.proofs.lemmas.Nat.{mul-lt}
 use Rattle.qasm_angle.specs.Fractions.{signed, below_zero}

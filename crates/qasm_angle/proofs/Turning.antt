@@ -1,15 +1,13 @@
 -- Angles of pairs.
-use Rattle.std.proofs.Common.{◌≡◌, ℕ, suc, zero, ◌+◌, ◌-◌, ◌*◌, ◌/◌, ◌%◌, ◌^◌, ◌<◌, ◌≤◌, ◌⊎◌, inl, inr, Bool, true, false, arith, refl, sym, ◌∙◌, ap, subst, Result, Ok, Err}
-use Rattle.std.specs.Prelude.{ℤ, pos, negsuc, nat_abs, neg_ℤ, ◌+ℤ◌, ◌*ℤ◌}
+use Rattle.std.proofs.Common.{◌≡◌, ℕ, ◌+◌, ◌-◌, ◌*◌, ◌/◌, ◌%◌, ◌^◌, ◌<◌, ◌≤◌, inl, inr, true, false, arith, sym, ◌∙◌, ap, subst, Ok}
+use Rattle.std.specs.Prelude.{ℤ, pos, nat_abs, neg_ℤ, ◌+ℤ◌}
 use Rattle.std.proofs.lemmas.Int.{ints}
 use Rattle.std.proofs.lemmas.Bool.{cases_lt}
 use Rattle.std.proofs.lemmas.Nat.{pow-add}
 use Rattle.qasm_angle.specs.declared.types.Pair.{Pair}
-use Rattle.qasm_angle.specs.declared.types.AngleFault.{AngleFault}
-use Rattle.qasm_angle.specs.declared.types.AngleFault.TheVariants.{AngleRange}
 use Rattle.qasm_angle.specs.Fractions.{signed, below_zero}
-use Rattle.qasm_angle.specs.Angles.{IsUnits, IsResidue, IsAngle}
-use Rattle.qasm_angle.proofs.Lowest.{apart_at, abs_scaled, signed_self}
+use Rattle.qasm_angle.specs.Angles.{IsUnits, IsAngle}
+use Rattle.qasm_angle.proofs.Lowest.{apart_at, abs_scaled}
 use Rattle.qasm_angle.proofs.Signs.{times_pos, scaled_side}
 
 pub no_units : (x : Pair) → 30 < x.s.shift → (n : ℤ) → IsUnits x n → ⊥

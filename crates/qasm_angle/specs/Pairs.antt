@@ -1,5 +1,5 @@
 -- Operations on pairs r + s·pi.
-use Rattle.std.specs.Prelude.{◌≡◌, ◌≢◌, ℕ, suc, ◌+◌, ◌*◌, ◌^◌, ◌<◌, ◌≤◌, ◌⊎◌, ℤ, pos, negsuc, nat_abs, neg_ℤ, ◌+ℤ◌, ◌*ℤ◌, Result, Ok, Err}
+use Rattle.std.specs.Prelude.{◌≡◌, ◌≢◌, ℕ, suc, ◌≤◌, ℤ, pos, negsuc, nat_abs, neg_ℤ, Result, Ok, Err}
 use Rattle.qasm_angle.specs.declared.types.Dyadic.{Dyadic}
 use Rattle.qasm_angle.specs.declared.types.Pair.{Pair}
 use Rattle.qasm_angle.specs.declared.types.AngleFault.{AngleFault}

@@ -1,8 +1,8 @@
 -- The value of an expression, or its first fault.
-use Rattle.std.specs.Prelude.{◌≡◌, ℕ, ◌≤◌, List, length, Option, Some, None, slice_get, Result, Ok, Err}
+use Rattle.std.specs.Prelude.{◌≡◌, ◌≤◌, List, length, Some, slice_get, Result, Ok, Err}
 use Rattle.qasm_angle.specs.declared.types.Pair.{Pair}
 use Rattle.qasm_angle.specs.declared.types.Op.{Op}
-use Rattle.qasm_angle.specs.declared.types.Op.TheVariants.{Number, Pi, Id, Neg, Add, Sub, Mul, Div, Pow, Func}
+use Rattle.qasm_angle.specs.declared.types.Op.TheVariants.{Number, Pi, Id, Add, Sub, Mul, Div, Pow, Func}
 use Rattle.qasm_angle.specs.declared.types.AngleFault.{AngleFault}
 use Rattle.qasm_angle.specs.declared.types.AngleFault.TheVariants.{NoParameter, Function, Memory}
 use Rattle.qasm_angle.specs.Fractions.{NumberIs}

@@ -1,4 +1,4 @@
-use Rattle.std.proofs.Common.{◌≡◌, ℕ, ◌+◌, ◌*◌, ◌^◌, ◌<◌, ◌/◌, arith}
+use Rattle.std.proofs.Common.{◌≡◌, ◌+◌, ◌*◌, ◌^◌, ◌<◌, ◌/◌, arith}
 use Rattle.qasm_angle.proofs.Lowest.{halved, few_twos}
 use Rattle.qasm_angle.proofs.dyadics.odd_part.Goals as goal
 

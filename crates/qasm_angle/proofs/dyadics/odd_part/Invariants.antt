@@ -1,4 +1,4 @@
-use Rattle.std.proofs.Common.{◌≡◌, ℕ, ◌+◌, ◌*◌, ◌^◌, ◌<◌, ◌≤◌}
+use Rattle.std.proofs.Common.{◌≡◌, ◌*◌, ◌^◌, ◌<◌}
 use Rattle.qasm_angle.proofs.dyadics.odd_part.Given as goal
 
 abbrev pub invariant-loop-odd : goal.invariant-loop-odd

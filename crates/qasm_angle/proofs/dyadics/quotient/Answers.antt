@@ -1,5 +1,5 @@
-use Rattle.std.proofs.Common.{◌≡◌, ℕ, ◌+◌, ◌*◌, ◌^◌, ◌<◌, ◌≤◌, ◌/◌, ◌%◌, arith, subst, sym, ap, ◌∙◌}
-use Rattle.std.specs.Prelude.{ℤ, pos, nat_abs}
+use Rattle.std.proofs.Common.{◌≡◌, ◌+◌, ◌*◌, ◌/◌, ◌%◌, arith, subst, sym, ap, ◌∙◌}
+use Rattle.std.specs.Prelude.{ℤ}
 use Rattle.std.proofs.lemmas.Nat.{div-add-mod'}
 use Rattle.qasm_angle.specs.Fractions.{Exactly}
 use Rattle.qasm_angle.proofs.Signs.{signs_of}

@@ -1,11 +1,8 @@
-use Rattle.std.proofs.Common.{◌≡◌, ℕ, ◌+◌, ◌-◌, ◌<◌, ◌≤◌, ◌∷◌, [], ◌++◌, Ok, Err, Some, arith, sym, ◌∙◌, ap, drop, length, length-append, subst, true, List, get_or, drop-cons, add-one, Result, reverse}
+use Rattle.std.proofs.Common.{◌≡◌, ◌+◌, ◌∷◌, [], arith, sym, ◌∙◌, ap, drop, length, length-append, subst, true, get_or, drop-cons, add-one, reverse}
 use Rattle.std.proofs.lemmas.Result.{err_from_is_err_and}
 use Rattle.std.proofs.Math.ListN.{drop_of_length-le}
 use Rattle.qasm_angle.specs.declared.types.Op.TheVariants.{Number}
-use Rattle.std.specs.Prelude.{pos, nat_le, ◌&&◌}
-use Rattle.qasm_angle.specs.Trees.{wants}
-use Rattle.qasm_angle.specs.declared.types.Pair.{Pair}
-use Rattle.qasm_angle.specs.declared.types.AngleFault.{AngleFault}
+use Rattle.std.specs.Prelude.{pos}
 use Rattle.qasm_angle.specs.Machine.{Runs, leaves_one}
 use Rattle.qasm_angle.proofs.Postfix.{ends, faulty, one_left, leaves_next}
 use Rattle.qasm_angle.proofs.evaluation.run.Goals as goal

@@ -1,4 +1,4 @@
-use Rattle.std.proofs.Common.{◌≡◌, true, length, List, drop, reverse, Result, []}
+use Rattle.std.proofs.Common.{◌≡◌, true, length, drop, reverse, Result, []}
 use Rattle.qasm_angle.specs.declared.types.Pair.{Pair}
 use Rattle.qasm_angle.specs.declared.types.AngleFault.{AngleFault}
 use Rattle.qasm_angle.specs.Machine.{Runs, leaves_one}

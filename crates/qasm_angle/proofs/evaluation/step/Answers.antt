@@ -1,4 +1,4 @@
-use Rattle.std.proofs.Common.{◌≡◌, ℕ, ◌∷◌, [], Ok, Err, Some, arith, sym, ◌∙◌, ap}
+use Rattle.std.proofs.Common.{◌≡◌, sym, ◌∙◌}
 use Rattle.std.proofs.lemmas.Result.{err_from_is_err_and}
 use Rattle.qasm_angle.specs.Trees.{wants}
 use Rattle.qasm_angle.specs.Machine.{leaf_off}

@@ -1,4 +1,4 @@
-use Rattle.std.proofs.Common.{◌≡◌, ◌^◌, ◌<◌, ◌≤◌, arith, subst, sym}
+use Rattle.std.proofs.Common.{◌<◌, arith, subst, sym}
 use Rattle.qasm_angle.proofs.Decimals.{decimal_zero, decimal_deep, decimal_broken, decimal_divided, fives_small}
 use Rattle.qasm_angle.proofs.Raising.{power_some}
 use Rattle.qasm_angle.proofs.numbers.decimal.Goals as goal

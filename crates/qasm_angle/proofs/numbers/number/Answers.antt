@@ -1,4 +1,4 @@
-use Rattle.std.proofs.Common.{◌<◌, ◌≤◌, arith, Err}
+use Rattle.std.proofs.Common.{arith, Err}
 use Rattle.qasm_angle.specs.declared.types.AngleFault.TheVariants.{AngleRange}
 use Rattle.std.proofs.lemmas.Int.{to_z-of_z}
 use mir.Syntax.{w32}

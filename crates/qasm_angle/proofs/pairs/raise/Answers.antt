@@ -1,4 +1,4 @@
-use Rattle.std.proofs.Common.{◌≡◌, sym, ◌∙◌}
+use Rattle.std.proofs.Common.{sym, ◌∙◌}
 use Rattle.qasm_angle.specs.Fractions.{PowerIs, InverseIs}
 use Rattle.qasm_angle.proofs.Reals.{on_real, power_positive, power_zero, power_negative, num_zero, num_some}
 use Rattle.qasm_angle.proofs.pairs.raise.Goals as goal

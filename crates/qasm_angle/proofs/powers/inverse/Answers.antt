@@ -1,5 +1,4 @@
-use Rattle.std.proofs.Common.{◌≡◌, ℕ, ◌+◌, ◌*◌, ◌^◌, ◌<◌, ◌≤◌, ◌%◌, arith, subst, sym, ap, ◌∙◌}
-use Rattle.std.specs.Prelude.{nat_abs}
+use Rattle.std.proofs.Common.{◌*◌, ◌^◌, subst, sym, ap, ◌∙◌}
 use Rattle.qasm_angle.specs.Fractions.{Exactly, signed, below_zero}
 use Rattle.qasm_angle.proofs.Raising.{no_inverse, inverse_is, inverse_large, odd_times}
 use Rattle.qasm_angle.proofs.powers.inverse.Goals as goal

@@ -1,4 +1,4 @@
-use Rattle.std.proofs.Common.{◌≡◌, ℕ, ◌+◌, ◌*◌, ◌^◌, ◌<◌, ◌≤◌, ◌%◌, arith, subst, sym, ap, ◌∙◌, inl, inr}
+use Rattle.std.proofs.Common.{◌*◌, arith, subst, sym, ap, ◌∙◌, inl, inr}
 use Rattle.qasm_angle.specs.Fractions.{Exactly, signed}
 use Rattle.qasm_angle.proofs.Raising.{too_large, power_is, raised_zero, odd_times}
 use Rattle.qasm_angle.proofs.powers.raised.Goals as goal

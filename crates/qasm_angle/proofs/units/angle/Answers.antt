@@ -1,4 +1,4 @@
-use Rattle.std.proofs.Common.{◌≡◌, sym, ◌∙◌}
+use Rattle.std.proofs.Common.{sym, ◌∙◌}
 use Rattle.qasm_angle.proofs.Reals.{num_zero}
 use Rattle.qasm_angle.proofs.Turning.{no_units, angle_positive, angle_negative}
 use Rattle.qasm_angle.proofs.units.angle.Goals as goal
