@@ -1,0 +1,9 @@
+pub mod Lowest
+pub mod Odd
+pub mod Signs
+pub mod Ratios
+pub mod Raising
+pub mod Decimals
+pub mod Postfix
+pub mod Turning
+pub mod Reals
