@@ -1,0 +1,14 @@
+pub mod Forest
+pub mod Cases
+pub mod Growing
+pub mod Runs
+pub mod Uses
+pub mod Balance
+pub mod Splices
+pub mod Fresh
+pub mod Built
+pub mod Once
+pub mod Texts
+pub mod Whole
+pub mod Steep
+pub mod Results
