@@ -16,23 +16,23 @@ use Rattle.pathsum.specs.Limits.{RawCount, IsWithinTo, IsWithinLimit, FirstPasse
 use Rattle.pathsum.proofs.Comparing.{input_below}
 
 -- the first n values of an assignment
-front : (ℕ → Bool) → ℕ → ℕ → Truths
+unfoldable pub front : (ℕ → Bool) → ℕ → ℕ → Truths
 front a v zero = []
 front a v (suc n) = a v ∷ front a (suc v) n
 
-length-front : (a : ℕ → Bool) (v n : ℕ) → length (front a v n) ≡ n
+pub length-front : (a : ℕ → Bool) (v n : ℕ) → length (front a v n) ≡ n
 unfolding front
 length-front a v zero = refl
 length-front a v (suc n) = ap suc (length-front a (suc v) n)
 
-bit-front : (a : ℕ → Bool) (v n i : ℕ) → i < n → bit (front a v n) i ≡ a (v + i)
+pub bit-front : (a : ℕ → Bool) (v n i : ℕ) → i < n → bit (front a v n) i ≡ a (v + i)
 unfolding front
 bit-front a v zero i h = absurd (omega arith)
 bit-front a v (suc n) zero h = let e : v ≡ v + 0 = omega arith in ap a e
 bit-front a v (suc n) (suc i) h = let e : suc v + i ≡ v + suc i = omega arith in bit-front a (suc v) n i (omega arith) ∙ ap a e
 
 -- there is one polynomial for given values
-poly_one : (n : ℕ) (h : Truths → Bool) (f g : List (List ℕ)) → IsPolyOf n h f → IsPolyOf n h g → f ≡ g
+pub poly_one : (n : ℕ) (h : Truths → Bool) (f g : List (List ℕ)) → IsPolyOf n h f → IsPolyOf n h g → f ≡ g
 poly_one n h f g wf wg = one_form f g wf.form wg.form (λ a. at a f wf ∙ sym (at a g wg))
   where
     at : (a : ℕ → Bool) (p : List (List ℕ)) → IsPolyOf n h p → bool_value p a ≡ h (front a 0 n)
@@ -77,3 +77,8 @@ first_passed n i A prim count l e r over w = record { place = i; prim = prim; be
 -- all of a list within the limit
 pub within_all : (n i : ℕ) (A : List Prim) → length A ≤ i → IsWithinTo n A i → IsWithinLimit n A
 within_all n i A l w k prim count h e r = w k prim count (omega arith) e r
+
+-- there is one count for a prim behind a list
+pub raw_one : (n : ℕ) (A : List Prim) (prim : Prim) (c d : ℕ) → RawCount n A prim c → RawCount n A prim d → c ≡ d
+raw_one n A (Cx x t) c d e f = e ∙ sym f
+raw_one n A (U theta phi lambda q) c d (g, wg, e) (h, wh, f) = e ∙ ap (λ p. min (raw_term ((2 * phi + 2 * lambda) % 4294967296) (length p)) 1000000000000) (poly_one n (λ x. bit (outputs_of A x) q) g h wg wh) ∙ sym f

@@ -1,5 +1,5 @@
 -- What a call of the program may answer and write.
-use Rattle.std.specs.Prelude.{ℕ, ◌≡◌, ◌<◌, ◌≤◌, Option, List, [], ◌∷◌, length, map, IfSome, codes}
+use Rattle.std.specs.Prelude.{ℕ, ◌≡◌, ◌<◌, ◌≤◌, Option, List, [], ◌∷◌, length, map, IfSome, Some, codes}
 use Rattle.std.specs.Io.KnownBytes.{append_known}
 use Rattle.ps_io.specs.Counts.{Rose}
 use Rattle.ps_io.specs.Streams.{AppendsPrefix}
@@ -44,3 +44,18 @@ pub record Ends (claims : Answer → Type 0) (old new : Option (List ℕ)) (faul
   pub answer : Answer
   pub claimed : claims answer
   pub written : Writes old new faults faults' (line_of answer) (status_of answer) status
+
+-- not a fault of the outside, nor want of memory
+abbrev pub IsOfInput : Answer → Type 0
+IsOfInput Read = ⊥
+IsOfInput Memory = ⊥
+IsOfInput answer = Unit {0}
+
+-- both have one status and one line
+pub record Agree (a b : Answer) : Type 0 where
+  pub status : status_of a ≡ status_of b
+  pub line : line_of a ≡ line_of b
+
+-- faults of the outside and want of memory aside, status and line are a function of the words and the input
+abbrev pub IsOneAnswer : List (List ℕ) → Option (List ℕ) → Type 0
+IsOneAnswer words told = IfSome told (λ bytes. (r r' s s' : ℕ) (a b : Answer) → Answers words (Some bytes) r r' a → Answers words (Some bytes) s s' b → IsOfInput a → IsOfInput b → Agree a b)

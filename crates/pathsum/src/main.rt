@@ -2,7 +2,7 @@
 #![tactic(auto)]
 
 ghost use Rattle.std.specs.Prelude.{◌↔◌, IsTrue, map, string_bytes};
-ghost use Rattle.pathsum.specs.Ended.{Answers, Ends, IsSame};
+ghost use Rattle.pathsum.specs.Ended.{Answers, Ends, IsOneAnswer, IsSame};
 
 mod answer;
 mod compose;
@@ -34,7 +34,8 @@ pub fn run<S: Source, W: Sink, G: Gate + Sync>(
     sink: &mut W,
     _gate: &G,
 ) -> Ended
-    ensures { Ends (Answers (map string_bytes words.now) (S.remaining source.old) (S.faults source.old) (S.faults source.new)) (W.held sink.old) (W.held sink.new) (W.faults sink.old) (W.faults sink.new) result.status }
+    ensures ends { Ends (Answers (map string_bytes words.now) (S.remaining source.old) (S.faults source.old) (S.faults source.new)) (W.held sink.old) (W.held sink.new) (W.faults sink.old) (W.faults sink.new) result.status }
+    ensures one_answer { IsOneAnswer (map string_bytes words.now) (S.remaining source.old) }
 {
     if is_same(words) {
         same_run(alloc, source, sink)
