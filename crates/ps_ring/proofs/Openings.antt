@@ -1,6 +1,6 @@
 -- Lists with values put in, read at the names that have closed up.
 use mathlib.Core.Path.{fun_ext}
-use Rattle.std.proofs.Common.{◌≡◌, ◌≢◌, ℕ, zero, suc, ◌+◌, ◌-◌, ◌<◌, ◌≤◌, refl, ap, sym, ◌∙◌, arith, Bool, true, false, cond, nat_lt, List, [], ◌∷◌, ◌++◌, length, zero-add, suc-add, ◌⊎◌, inl, inr}
+use Rattle.std.proofs.Common.{◌≡◌, ◌≢◌, ℕ, zero, suc, ◌+◌, ◌-◌, ◌≤◌, refl, ap, sym, ◌∙◌, arith, Bool, true, false, cond, nat_lt, [], ◌∷◌, ◌++◌, length, zero-add, suc-add, ◌⊎◌, inl, inr}
 use Rattle.std.proofs.lemmas.Bool.Decides.{nat_tests}
 use Rattle.ps_ring.specs.Truths.{Truths, bit}
 use Rattle.ps_ring.specs.Sums.{insert_at}

@@ -1,13 +1,10 @@
 -- Sums that are read at assignments: one gate, the join and the overlap.
-use mathlib.Core.Path.{fun_ext}
-use Rattle.std.proofs.Common.{◌≡◌, ◌≢◌, ℕ, zero, suc, ◌+◌, ◌-◌, ◌*◌, ◌%◌, ◌≤◌, ◌<◌, refl, ap, ap₂, sym, ◌∙◌, arith, Bool, true, false, cond, nat_lt, ◌&&◌, List, [], ◌∷◌, ◌++◌, length, set, get_or, length-append, get_or-append-add, append_assoc}
+use Rattle.std.proofs.Common.{◌≡◌, ℕ, zero, suc, ◌+◌, ◌-◌, ◌*◌, ◌%◌, ◌<◌, refl, ap, ap₂, sym, ◌∙◌, arith, Bool, true, false, cond, nat_lt, ◌&&◌, [], ◌∷◌, ◌++◌, length, set, length-append, get_or-append-add, append_assoc}
 use Rattle.std.proofs.Math.ListN.{get_or-append}
-use Rattle.std.proofs.Math.IntN.{ℤ, pos, ◌+ℤ◌}
-use Rattle.std.proofs.lemmas.Int.{ints}
 use Rattle.std.proofs.lemmas.Bool.Decides.{nat_tests}
 use Rattle.ps_ring.specs.Truths.{Truths, bit}
 use Rattle.ps_ring.specs.Joins.{pairing}
-use Rattle.ps_ring.specs.Readings.{Assignment, IsUnder, taken, second_name, moved_name, PlainReading, TurnedReading, JoinReading, OverlapReading}
+use Rattle.ps_ring.specs.Readings.{Assignment, taken, second_name, moved_name, JoinReading}
 use Rattle.ps_ring.specs.ReadingLaws.{PlainRead, TurnedRead, JoinRead, OverlapRead}
 
 -- lists in a row

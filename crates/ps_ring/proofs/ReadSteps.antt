@@ -1,12 +1,11 @@
 -- Sums that are read at assignments: the steps.
 use mathlib.Core.Bool.{xor}
-use Rattle.std.proofs.Common.{◌≡◌, ◌≢◌, ℕ, zero, suc, ◌+◌, ◌%◌, ◌≤◌, refl, ap, ap₂, sym, ◌∙◌, arith, Bool, true, false, cond, ◌&&◌, List, [], ◌∷◌, ◌++◌, length, length-append}
-use Rattle.std.proofs.Math.IntN.{ℤ, pos, ◌+ℤ◌}
+use Rattle.std.proofs.Common.{◌≡◌, ◌≢◌, ℕ, suc, ◌+◌, ◌%◌, ◌≤◌, refl, ap, ap₂, sym, ◌∙◌, arith, Bool, true, false, cond, ◌&&◌, ◌++◌, length, length-append}
 use Rattle.ps_ring.specs.Truths.{Truths, bit}
 use Rattle.ps_ring.specs.Sums.{insert_at}
-use Rattle.ps_ring.specs.Readings.{Assignment, Ignores, opened, closed_up, ElimReading, HhReading, OmegaReading}
+use Rattle.ps_ring.specs.Readings.{Assignment, Ignores, opened}
 use Rattle.ps_ring.specs.ReadingLaws.{ElimRead, HhRead, OmegaRead}
-use Rattle.ps_ring.proofs.Inserts.{get_inserted, get_beside, length_insert_at}
+use Rattle.ps_ring.proofs.Inserts.{get_inserted, get_beside}
 use Rattle.ps_ring.proofs.Openings.{closed_bit, behind, behind_two, two, two_first, two_second, two_closed, two_beside, two_other}
 
 room : (n m i : ℕ) (x y : Truths) → i ≤ m → length x ≡ n → length y ≡ m → n + i ≤ length (x ++ y)

@@ -1,5 +1,5 @@
 -- Sums that are read at assignments are steps, joins and overlaps of one another where what is read is.
-use Rattle.std.specs.Prelude.{ℕ, suc, ◌≡◌, ◌<◌, ◌+◌, Bool, false, ◌++◌}
+use Rattle.std.specs.Prelude.{ℕ, suc, ◌<◌, ◌+◌, Bool, false, ◌++◌}
 use Rattle.std.proofs.Math.IntN.{ℤ, pos, ◌+ℤ◌}
 use Rattle.ps_ring.specs.Truths.{Truths, bit}
 use Rattle.ps_ring.specs.Sums.{insert_at}

@@ -1,6 +1,6 @@
 -- Path sums whose phase and outputs are read at an assignment of numbered variables, as those of polynomials are:
 -- the inputs come first, and then the path variables. When such sums are a step, a join or an overlap of others.
-use Rattle.std.specs.Prelude.{ℕ, zero, suc, ◌≡◌, ◌≢◌, ◌<◌, ◌≤◌, ◌+◌, ◌*◌, ◌%◌, cond, ◌&&◌, nat_lt, Bool, List, [], ◌∷◌, ◌++◌, length, set}
+use Rattle.std.specs.Prelude.{ℕ, zero, suc, ◌≡◌, ◌≢◌, ◌<◌, ◌≤◌, ◌+◌, ◌*◌, ◌%◌, cond, ◌&&◌, nat_lt, Bool, [], ◌∷◌, ◌++◌, length, set}
 use mathlib.Core.Bool.{xor}
 use Rattle.std.proofs.Math.IntN.{ℤ}
 use Rattle.ps_ring.specs.Truths.{Truths, bit}
