@@ -1,6 +1,5 @@
 -- The overlap of two path sums: the closed sum of the inner product of their columns, and what its number shows.
-use Rattle.std.specs.Prelude.{ℕ, ◌≡◌, ◌+◌, ◌%◌, cond, ◌&&◌, List, [], ◌∷◌, ◌++◌, length}
-use mathlib.Core.Bool.{xor}
+use Rattle.std.specs.Prelude.{ℕ, ◌≡◌, ◌+◌, ◌%◌, List, [], length}
 use Rattle.std.proofs.Math.IntN.{ℤ, pos, ◌+ℤ◌, ◌-ℤ◌}
 use Rattle.ps_ring.specs.Numbers.{one, SameScaled}
 use Rattle.ps_ring.specs.Sums.{PathValues, signed_count}

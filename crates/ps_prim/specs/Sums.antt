@@ -1,6 +1,6 @@
 -- Path sums and lists of prims: what it means that a sum denotes a list, and which sum one prim has.
-use Rattle.std.specs.Prelude.{ℕ, zero, suc, ◌≡◌, ◌+◌, ◌*◌, ◌%◌, cond, ◌&&◌, Bool, List, [], ◌∷◌, ◌++◌, length, set}
-use Rattle.std.proofs.Math.IntN.{pos, ◌+ℤ◌}
+use Rattle.std.specs.Prelude.{ℕ, zero, suc, ◌≡◌, ◌+◌, ◌*◌, cond, List, length}
+use Rattle.std.proofs.Math.IntN.{pos}
 use Rattle.ps_ring.specs.Numbers.{SameScaled}
 use Rattle.ps_ring.specs.Sums.{PathValues, signed_count}
 use Rattle.ps_ring.specs.Joins.{PlainSum, TurnedSum}
