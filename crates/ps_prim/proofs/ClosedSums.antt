@@ -1,6 +1,6 @@
 -- Closed path sums: 0 and 1.
 use mathlib.Core.Path.{fun_ext}
-use Rattle.std.proofs.Common.{◌≡◌, ℕ, zero, suc, ◌+◌, ◌%◌, refl, ap, ap₂, sym, ◌∙◌, arith, false, []}
+use Rattle.std.proofs.Common.{◌≡◌, ℕ, zero, suc, ◌+◌, ◌%◌, refl, ap, ap₂, sym, ◌∙◌, arith, false, [], ◌≢◌, ◌≤◌, cond, ◌&&◌, ◌++◌, length, length-append, true}
 use Rattle.std.proofs.Math.IntN.{ℤ, pos, ◌+ℤ◌, ◌-ℤ◌, neg_ℤ, +ℤ_idr}
 use Rattle.std.proofs.lemmas.Int.{ints}
 use Rattle.ps_ring.specs.Numbers.{Number, IsNumber, one, when, sqrt2, root2, above}
@@ -11,8 +11,10 @@ use Rattle.ps_ring.proofs.Roots.{root2_cancel, same_path, same_from}
 use Rattle.ps_ring.proofs.Whens.{when-neg}
 use Rattle.ps_ring.proofs.Totals.{total_ext, total_pull, total_zero}
 use Rattle.ps_ring.proofs.StepLaws.{signed_number}
-use Rattle.ps_prim.specs.Amplitudes.{Truths, same_bits}
-use Rattle.ps_prim.specs.Closed.{VanishingIsZero, ZeroIsNotOne, PlainIsOne, OneIsPlain}
+use Rattle.ps_ring.proofs.Inserts.{get_inserted, get_beside}
+use Rattle.ps_ring.proofs.Openings.{behind}
+use Rattle.ps_prim.specs.Amplitudes.{Truths, bit, same_bits}
+use Rattle.ps_prim.specs.Closed.{VanishRead, VanishingIsZero, ZeroIsNotOne, PlainIsOne, OneIsPlain}
 use Rattle.ps_prim.proofs.PlainSums.{one_path}
 use Rattle.ps_prim.proofs.Different.{phase_is_one}
 
@@ -76,3 +78,24 @@ pub one_is_plain : OneIsPlain
 one_is_plain S x m o h =
     let c : signed_count S x [] ≡ (λ j. one (j -ℤ pos (S.phase x []))) = fun_ext (alone S x m o) in
     phase_is_one S.k (S.phase x []) (λ j. ap (λ u. root2 (above S.k (pos 0)) u j) (sym c) ∙ h j)
+
+half_at : (pt pf r : ℕ) → pt % 4294967296 ≡ (r + 2147483648) % 4294967296 → pf % 4294967296 ≡ (r + 0) % 4294967296 → pt % 4294967296 ≡ (pf + 2147483648) % 4294967296
+half_at pt pf r s t = omega arith
+
+pub vanish_read : VanishRead
+vanish_read n m i k P R O Q x lx e = record {
+  m_is = refl;
+  at = e.at;
+  flips = λ y ly.
+      let h : n + i ≤ length (x ++ y) = omega (arith, length-append x y, e.at) in
+      let T = bit (insert_at (n + i) true (x ++ y)) in
+      let F = bit (insert_at (n + i) false (x ++ y)) in
+      let off : (u : ℕ) → u ≢ n + i → T u ≡ F u = λ u d. get_beside (n + i) u true false (x ++ y) h (λ c. d (sym c)) in
+      let q : Q T ≡ true = e.value_free T F off ∙ ap (λ w. Q (bit w)) (sym (behind n x y i false lx)) ∙ e.holds y ly in
+      let s : P T % 4294967296 ≡ (R F + 2147483648) % 4294967296 = e.phase_was T ∙ ap₂ (λ a c. (R T + cond (a && c) 2147483648 0) % 4294967296) (get_inserted (n + i) true (x ++ y) h) q ∙ ap (λ r. (r + 2147483648) % 4294967296) (e.rest_free T F off) in
+      let t : P F % 4294967296 ≡ (R F + 0) % 4294967296 = e.phase_was F ∙ ap (λ a. (R F + cond (a && Q F) 2147483648 0) % 4294967296) (get_inserted (n + i) false (x ++ y) h) in
+      ap (λ w. P (bit w) % 4294967296) (behind n x y i true lx) ∙ half_at (P T) (P F) (R F) s t ∙ ap (λ w. (P (bit w) + 2147483648) % 4294967296) (sym (behind n x y i false lx));
+  idle = λ y ly.
+      let h : n + i ≤ length (x ++ y) = omega (arith, length-append x y, e.at) in
+      ap (λ w. O (bit w)) (behind n x y i true lx) ∙ e.outs_free _ _ (λ u d. get_beside (n + i) u true false (x ++ y) h (λ c. d (sym c))) ∙ ap (λ w. O (bit w)) (sym (behind n x y i false lx));
+}

@@ -11,7 +11,8 @@ use Rattle.ps_ring.proofs.Totals.{total_ext, total_append}
 use Rattle.ps_ring.proofs.StepLaws.{signed_number}
 use Rattle.ps_prim.specs.declared.prims.Prim.{Prim}
 use Rattle.ps_prim.specs.Amplitudes.{Truths, Column, same_bits, run, start, amplitude, turns}
-use Rattle.ps_prim.specs.Sums.{Denotes, JoinedSum}
+use Rattle.ps_prim.specs.Sums.{Denotes}
+use Rattle.ps_ring.specs.Joins.{JoinedSum}
 use Rattle.ps_prim.specs.SumLaws.{JoinDenotes}
 use Rattle.ps_prim.proofs.Appended.{run-append, turns-append}
 use Rattle.ps_prim.proofs.Columns.{amplitude_number}

@@ -9,10 +9,10 @@ use Rattle.ps_ring.specs.Sums.{total, PathValues, signed_count}
 use Rattle.ps_ring.proofs.Turned.{one_number, turned_by}
 use Rattle.ps_ring.proofs.Roots.{same_from}
 use Rattle.ps_ring.proofs.StepLaws.{signed_number}
-use Rattle.ps_prim.specs.declared.prims.Prim.{Prim}
 use Rattle.ps_prim.specs.declared.prims.Prim.TheVariants.{U, Cx}
 use Rattle.ps_prim.specs.Amplitudes.{Truths, bit, same_bits, first_phase, second_phase, entry, exchanged, act, run, start, amplitude, turns}
-use Rattle.ps_prim.specs.Sums.{Denotes, TurnedSum}
+use Rattle.ps_prim.specs.Sums.{Denotes}
+use Rattle.ps_ring.specs.Joins.{TurnedSum}
 use Rattle.ps_prim.specs.SumLaws.{LeafDenotes}
 use Rattle.ps_prim.proofs.Columns.{amplitude_number}
 use Rattle.ps_prim.proofs.Plains.{plain_empty, plain_cx, plain_turn, plain_equal}

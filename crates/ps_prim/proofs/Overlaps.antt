@@ -17,7 +17,8 @@ use Rattle.ps_prim.specs.Amplitudes.{Truths, Column, same_bits, amplitude, turns
 use Rattle.ps_prim.specs.Maps.{AllWithin, SameAt}
 use Rattle.ps_prim.specs.Columns.{inner_over}
 use Rattle.ps_prim.specs.Sums.{Denotes}
-use Rattle.ps_prim.specs.Overlaps.{pairing, OverlapSum, OverlapIsInner, OverlapDenotes, IsOne, OverlapOne, OverlapNotOne}
+use Rattle.ps_prim.specs.Overlaps.{OverlapIsInner, OverlapDenotes, IsOne, OverlapOne, OverlapNotOne}
+use Rattle.ps_ring.specs.Joins.{pairing, OverlapSum}
 use Rattle.ps_prim.proofs.Columns.{amplitude_number}
 use Rattle.ps_prim.proofs.Equal.{one_is_same}
 use Rattle.ps_prim.proofs.Different.{same_is_one, one_is_same_scaled}

@@ -8,9 +8,8 @@ use Rattle.ps_ring.specs.Sums.{total, PathValues, signed_count}
 use Rattle.ps_ring.proofs.Turned.{one_number, turned_same}
 use Rattle.ps_ring.proofs.Roots.{root2_even, same_from}
 use Rattle.ps_ring.proofs.StepLaws.{signed_number}
-use Rattle.ps_prim.specs.declared.prims.Prim.{Prim}
 use Rattle.ps_prim.specs.Amplitudes.{Truths, same_bits, amplitude, turns}
-use Rattle.ps_prim.specs.Sums.{PlainSum}
+use Rattle.ps_ring.specs.Joins.{PlainSum}
 use Rattle.ps_prim.specs.SumLaws.{PlainDenotes, IdentityDenotes}
 use Rattle.ps_prim.proofs.Columns.{amplitude_number}
 use Rattle.ps_prim.proofs.Plains.{plain_empty}

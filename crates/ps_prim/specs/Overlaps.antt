@@ -1,34 +1,14 @@
 -- The overlap of two path sums: the closed sum of the inner product of their columns, and what its number shows.
-use Rattle.std.specs.Prelude.{ℕ, ◌≡◌, ◌+◌, ◌%◌, cond, ◌&&◌, List, [], ◌∷◌, ◌++◌, length}
-use mathlib.Core.Bool.{xor}
+use Rattle.std.specs.Prelude.{ℕ, ◌≡◌, ◌+◌, ◌%◌, List, [], length}
 use Rattle.std.proofs.Math.IntN.{ℤ, pos, ◌+ℤ◌, ◌-ℤ◌}
 use Rattle.ps_ring.specs.Numbers.{one, SameScaled}
 use Rattle.ps_ring.specs.Sums.{PathValues, signed_count}
+use Rattle.ps_ring.specs.Joins.{OverlapSum, IsOpen}
 use Rattle.ps_prim.specs.declared.prims.Prim.{Prim}
 use Rattle.ps_prim.specs.Amplitudes.{Truths, amplitude, turns}
 use Rattle.ps_prim.specs.Maps.{AllWithin, SameAt, DiffersAt}
 use Rattle.ps_prim.specs.Columns.{inner_over}
 use Rattle.ps_prim.specs.Sums.{Denotes}
-
--- half a turn for each place at which w is true and f and g differ
-unfoldable pub pairing : Truths → Truths → Truths → ℕ
-pairing [] f g = 0
-pairing (b ∷ w) [] g = 0
-pairing (b ∷ w) (x ∷ f) [] = 0
-pairing (b ∷ w) (x ∷ f) (y ∷ g) = cond (b && xor x y) 2147483648 0 + pairing w f g
-
--- S is the overlap of S1 and S2: it has their path variables and one for each output, and no outputs;
--- its phase is S2's less S1's, and the pairing of their outputs
-pub record OverlapSum (n : ℕ) (S1 S2 S : PathValues) : Type 0 where
-  pub m_is : S.m ≡ S1.m + (S2.m + n)
-  pub k_is : S.k ≡ S1.k +ℤ S2.k +ℤ pos (n + n)
-  pub phase_is : (x y1 y2 w : Truths) → length x ≡ n → length y1 ≡ S1.m → length y2 ≡ S2.m → length w ≡ n
-      → (S.phase x (y1 ++ (y2 ++ w)) + S1.phase x y1) % 4294967296 ≡ (S2.phase x y2 + pairing w (S1.outs x y1) (S2.outs x y2)) % 4294967296
-  pub outs_is : (x y : Truths) → length x ≡ n → length y ≡ S.m → S.outs x y ≡ []
-
--- at n inputs the sum has n outputs
-abbrev pub IsOpen : ℕ → PathValues → Type 0
-IsOpen n S = (x y : Truths) → length x ≡ n → length y ≡ S.m → length (S.outs x y) ≡ n
 
 -- the number of the overlap is the inner product of the two sums' numbers over all outputs
 abbrev pub OverlapIsInner : Type 0

@@ -5,7 +5,8 @@ use Rattle.ps_prim.specs.declared.prims.Prim.{Prim}
 use Rattle.ps_prim.specs.Amplitudes.{Truths}
 use Rattle.ps_prim.specs.Maps.{IsWithin}
 use Rattle.ps_prim.specs.Plain.{IsPlain}
-use Rattle.ps_prim.specs.Sums.{Denotes, PlainSum, IdentitySum, LeafSum, JoinedSum}
+use Rattle.ps_prim.specs.Sums.{Denotes, LeafSum}
+use Rattle.ps_ring.specs.Joins.{PlainSum, IdentitySum, JoinedSum}
 
 -- a sum without path variables denotes each list that permutes and turns the basis inputs in this way
 abbrev pub PlainDenotes : Type 0

@@ -2,7 +2,7 @@
 
 ghost use Rattle.ps_prim.specs.Plain.{PlainEmpty, PlainCx, PlainTurn, PlainSame, PlainOutputDiffers, PlainPhaseDiffers};
 ghost use Rattle.ps_prim.specs.AmplitudeLaws.{AmplitudeEmpty, AmplitudeLast, AmplitudeAppend, TurnsAppend, AmplitudeIsNumber};
-ghost use Rattle.ps_prim.specs.Closed.{VanishingIsZero, ZeroIsNotOne, PlainIsOne, OneIsPlain};
+ghost use Rattle.ps_prim.specs.Closed.{VanishRead, VanishingIsZero, ZeroIsNotOne, PlainIsOne, OneIsPlain};
 ghost use Rattle.ps_prim.specs.Columns.{PrimKeepsInner, OwnInnerIsOne, OneIsSame, SameIsOne};
 ghost use Rattle.ps_prim.specs.SumLaws.{PlainDenotes, IdentityDenotes, LeafDenotes, JoinDenotes};
 ghost use Rattle.ps_prim.specs.Overlaps.{OverlapIsInner, OverlapDenotes, OverlapOne, OverlapNotOne, PhaseIsOne};
@@ -56,6 +56,7 @@ pub fn overlap_law()
 
 /// When a closed sum stands for 0, and when one without path variables stands for 1.
 pub fn closed_law()
+    ensures read { VanishRead }
     ensures vanishing { VanishingIsZero }
     ensures zero { ZeroIsNotOne }
     ensures plain { PlainIsOne }

@@ -11,3 +11,6 @@ pub mod Whens
 pub mod Totals
 pub mod Inserts
 pub mod StepLaws
+pub mod Openings
+pub mod ReadSteps
+pub mod ReadJoins

@@ -5,3 +5,6 @@ pub mod NumberLaws
 pub mod InnerLaws
 pub mod Sums
 pub mod Steps
+pub mod Joins
+pub mod Readings
+pub mod ReadingLaws

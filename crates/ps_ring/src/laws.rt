@@ -2,6 +2,7 @@
 
 ghost use Rattle.ps_ring.specs.NumberLaws.{OneIsNumber, RootTwice, RootEven, RootOdd, SameReflexive, SameSymmetric, SameTransitive, SameByPowers, SamePowers, SumOfEqual, SumOfHalfTurn, SumOfQuarterTurn};
 ghost use Rattle.ps_ring.specs.Steps.{ElimKeeps, HhKeeps, OmegaKeeps};
+ghost use Rattle.ps_ring.specs.ReadingLaws.{ElimRead, HhRead, OmegaRead, PlainRead, TurnedRead, JoinRead, OverlapRead};
 ghost use Rattle.ps_ring.specs.InnerLaws.{InnerIsNumber, InnerAddsLeft, InnerAddsRight, InnerTurnedBoth, InnerTurnedRight, InnerRootLeft, InnerRootRight, InnerOfOne, InnerSelf, InnerNone};
 
 /// The number 1, and the powers of the root of 2 in closed form.
@@ -47,4 +48,16 @@ pub fn step_law()
     ensures eliminates { ElimKeeps }
     ensures hh { HhKeeps }
     ensures omega { OmegaKeeps }
+{}
+
+/// Path sums that are read at assignments of numbered variables are steps, gates, joins and
+/// overlaps where what is read is.
+pub fn reading_law()
+    ensures eliminates { ElimRead }
+    ensures hh { HhRead }
+    ensures omega { OmegaRead }
+    ensures plain { PlainRead }
+    ensures turned { TurnedRead }
+    ensures join { JoinRead }
+    ensures overlap { OverlapRead }
 {}
