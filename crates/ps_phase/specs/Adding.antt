@@ -1,9 +1,10 @@
 -- Two polynomials added, term by term.
-use Rattle.std.specs.Prelude.{ℕ, ◌+◌, ◌*◌, ◌%◌, cond, nat_eq, List, [], ◌∷◌}
+use Rattle.std.specs.Prelude.{ℕ, ◌+◌, ◌*◌, ◌%◌, cond, nat_eq, List, [], ◌∷◌, Bool, true, false}
 use Rattle.std.specs.declared.cmp.Ordering.{Ordering}
 use Rattle.std.specs.declared.cmp.Ordering.TheVariants.{Less, Equal, Greater}
 use Rattle.ps_phase.specs.declared.terms.Term.{Term}
 use Rattle.ps_mono.specs.Sets.{mono_cmp, stands}
+use Rattle.ps_mono.specs.Truth.{differ}
 
 unfoldable pub choose : Ordering → List Term → List Term → List Term → List Term
 choose Less a b c = a
@@ -28,10 +29,17 @@ unfoldable pub scaled_terms : ℕ → List Term → List Term
 scaled_terms by [] = []
 scaled_terms by (t ∷ ts) = put_term t.mono ((by * t.phase) % 4294967296) (scaled_terms by ts)
 
--- the terms that contain v, in order
-unfoldable pub terms_with : ℕ → List Term → List Term
-terms_with v [] = []
-terms_with v (t ∷ ts) = cond (stands v t.mono) (t ∷ terms_with v ts) (terms_with v ts)
+-- the terms in which it is so, or not so, that v stands there, in order
+unfoldable pub terms_where : Bool → ℕ → List Term → List Term
+terms_where b v [] = []
+terms_where b v (t ∷ ts) = cond (differ b (stands v t.mono)) (terms_where b v ts) (t ∷ terms_where b v ts)
+
+-- the terms that contain v, and those that do not
+abbrev pub terms_with : ℕ → List Term → List Term
+terms_with v ts = terms_where true v ts
+
+abbrev pub terms_without : ℕ → List Term → List Term
+terms_without v ts = terms_where false v ts
 
 -- the sum of each run of one monomial, after a run of m that has come to p
 unfoldable pub combined_terms : List ℕ → ℕ → List Term → List Term

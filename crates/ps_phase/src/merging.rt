@@ -1,7 +1,7 @@
 ghost use Rattle.std.specs.Prelude.{◌≡◌, ℕ, ◌<◌, Bool, [], ◌++◌, IfOk, OnOk, false};
 ghost use Rattle.std.specs.List.{All};
 ghost use Rattle.ps_mono.specs.Sets.{stands, IsVarSet};
-ghost use Rattle.ps_phase.specs.Adding.{put_term, add_terms, scaled_terms, terms_with, combined_terms};
+ghost use Rattle.ps_phase.specs.Adding.{put_term, add_terms, scaled_terms, terms_where, combined_terms};
 ghost use Rattle.ps_phase.specs.Phases.{AllSmall};
 
 use super::terms::Term;
@@ -68,14 +68,19 @@ pub(crate) fn scaled(alloc: Global, terms: &[Term], by: u32) -> Result<Vec<Term>
     Ok(out)
 }
 
-// The terms that contain v.
-pub(crate) fn selected(alloc: Global, terms: &[Term], v: u16) -> Result<Vec<Term>, AllocError>
+// The terms of which it is so, or not so, that they contain v.
+pub(crate) fn selected(
+    alloc: Global,
+    terms: &[Term],
+    v: u16,
+    with: bool,
+) -> Result<Vec<Term>, AllocError>
     requires { v < 512 }
-    ensures { IfOk result (λ w. w.items ≡ terms_with v terms.now) }
+    ensures { IfOk result (λ w. w.items ≡ terms_where with v terms.now) }
 {
     let mut out = Vec::new(alloc);
     for term in terms {
-        if term.mono.contains(v) {
+        if term.mono.contains(v) == with {
             out.push(*term)?;
         }
     }

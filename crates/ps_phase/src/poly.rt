@@ -1,6 +1,6 @@
 ghost use Rattle.std.specs.Prelude.{◌≡◌, ℕ, ◌<◌, ◌%◌, ◌+◌, ◌*◌, ◌↔◌, Bool, true, false, ◌||◌, IfOk, OnOk, OnErr, IsTrue, [], length, slice_get};
 ghost use Rattle.ps_phase.specs.Phases.{phase_value, phase_occurs, IsPhasePoly, coefficient, SameTurns};
-ghost use Rattle.ps_phase.specs.Adding.{terms_with};
+ghost use Rattle.ps_phase.specs.Adding.{terms_with, terms_without};
 ghost use Rattle.ps_mono.specs.Sets.{stands};
 
 use super::inplace::{absorb, fits};
@@ -126,7 +126,17 @@ impl PhasePoly {
         ensures terms { IfOk result (λ p. p ≡ terms_with v self.now) }
         ensures form { IfOk result (λ p. IsPhasePoly p) }
     {
-        let terms = selected(*self.terms.allocator(), &self.terms, v)?;
+        let terms = selected(*self.terms.allocator(), &self.terms, v, true)?;
+        Ok(PhasePoly { terms })
+    }
+
+    /// The terms that do not contain `v`, in order. `AllocError` is want of memory.
+    pub fn terms_without(&self, v: u16) -> Result<PhasePoly, AllocError>
+        requires { v < 512 }
+        ensures terms { IfOk result (λ p. p ≡ terms_without v self.now) }
+        ensures form { IfOk result (λ p. IsPhasePoly p) }
+    {
+        let terms = selected(*self.terms.allocator(), &self.terms, v, false)?;
         Ok(PhasePoly { terms })
     }
 

@@ -1,2 +1,3 @@
 pub mod Lifts
 pub mod Counting
+pub mod Substitutes

@@ -61,7 +61,7 @@ next_step false k by p q u e = omega arith
 and_free : (p q : Bool) → p ≡ false → q ≡ false → (p || q) ≡ false
 and_free p q e f = no_or p q e f
 
-occurs_get : (v : ℕ) (ts : List Term) (i : ℕ) (t : Term) → i < length ts → t ≡ get_or ts i t → phase_occurs v ts ≡ false → stands v t.mono ≡ false
+pub occurs_get : (v : ℕ) (ts : List Term) (i : ℕ) (t : Term) → i < length ts → t ≡ get_or ts i t → phase_occurs v ts ≡ false → stands v t.mono ≡ false
 unfolding phase_occurs
 occurs_get v [] i t h e f = absurd (omega arith)
 occurs_get v (x ∷ ts) zero t h e f = ap (λ (y : Term). stands v y.mono) e ∙ (neither (stands v x.mono) (phase_occurs v ts) f).0
@@ -149,12 +149,12 @@ differ_move false true false = refl
 differ_move false false true = refl
 differ_move false false false = refl
 
-bool_push : (ms : List (List ℕ)) (m : List ℕ) (a : ℕ → Bool) → bool_value (ms ++ m ∷ []) a ≡ differ (bool_value ms a) (holds m a)
+pub bool_push : (ms : List (List ℕ)) (m : List ℕ) (a : ℕ → Bool) → bool_value (ms ++ m ∷ []) a ≡ differ (bool_value ms a) (holds m a)
 unfolding bool_value
 bool_push [] m a = differ_end (holds m a)
 bool_push (k ∷ ms) m a = ap (differ (holds k a)) (bool_push ms m a) ∙ differ_move (holds k a) (bool_value ms a) (holds m a)
 
-mono_free : (v : ℕ) (f : List (List ℕ)) (i : ℕ) (m : List ℕ) → i < length f → m ≡ get_or f i m → occurs v f ≡ false → stands v m ≡ false
+pub mono_free : (v : ℕ) (f : List (List ℕ)) (i : ℕ) (m : List ℕ) → i < length f → m ≡ get_or f i m → occurs v f ≡ false → stands v m ≡ false
 unfolding occurs
 mono_free v [] i m h e k = absurd (omega arith)
 mono_free v (x ∷ f) zero m h e k = ap (stands v) e ∙ (neither (stands v x) (occurs v f) k).0

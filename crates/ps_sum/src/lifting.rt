@@ -20,14 +20,29 @@ pub fn lift(alloc: Global, poly: &BoolPoly, by: Phase) -> Result<PhasePoly, Allo
     ensures variables { IfOk result (λ p. (v : ℕ) → phase_occurs v p ≡ true → occurs v poly.now ≡ true) }
     ensures form { IfOk result (λ p. IsPhasePoly p) }
 {
-    if by.units() == 0 {
-        return Ok(PhasePoly::zero(alloc));
-    }
     let mut terms = Vec::new(alloc);
-    for mono in poly.monos() {
-        push_products(&mut terms, mono, by)?;
-    }
+    fill_lift(&mut terms, poly, by)?;
     PhasePoly::gather(terms)
+}
+
+// The terms of the lift in place of those that stand there, in no order, and several may have one
+// monomial.
+pub(crate) fn fill_lift(
+    terms: &mut Vec<Term>,
+    poly: &BoolPoly,
+    by: Phase,
+) -> Result<(), AllocError>
+    ensures value { OnOk result ((a : ℕ → Bool) → phase_value terms.new.items a % 4294967296 ≡ times (bool_value poly.now a) by % 4294967296) }
+    ensures variables { OnOk result ((v : ℕ) → phase_occurs v terms.new.items ≡ true → occurs v poly.now ≡ true) }
+{
+    terms.clear();
+    if by.units() == 0 {
+        return Ok(());
+    }
+    for mono in poly.monos() {
+        push_products(terms, mono, by)?;
+    }
+    Ok(())
 }
 
 // The monomial's own term, and less twice its products with the terms that stand there.

@@ -49,3 +49,17 @@ fn counts(rt: HostRuntime) -> Result<(), Fail> {
     assert_eq!(rt; raw_term(Phase::of(1), 3_000_000), 1_000_000_000_000);
     Ok(())
 }
+
+// In 1/4*x0, x1 + x2 in place of x0.
+#[test]
+fn substitutes(rt: HostRuntime) -> Result<(), Fail> {
+    let alloc = rt.alloc();
+    let second = Mono::var(1);
+    let third = Mono::var(2);
+    let by = BoolPoly::of(alloc, &second)?.xor(&BoolPoly::of(alloc, &third)?)?;
+    let poly = eighths(alloc, &[(Mono::var(0), 2)])?;
+    let both = second.union(&third);
+    let wanted = eighths(alloc, &[(second, 2), (third, 2), (both, 4)])?;
+    assert!(rt; subst_phase(alloc, &poly, 0, &by)?.same(&wanted));
+    Ok(())
+}

@@ -1,0 +1,68 @@
+ghost use Rattle.std.specs.Prelude.{◌≡◌, ℕ, ◌<◌, ◌+◌, ◌%◌, Bool, true, false, not, nat_eq, ◌&&◌, ◌||◌, IfOk, OnOk};
+ghost use Rattle.ps_mono.specs.Sets.{holds, stands};
+ghost use Rattle.ps_mono.specs.Truth.{times, with_value};
+ghost use Rattle.ps_bool.specs.Polys.{bool_value, occurs};
+ghost use Rattle.ps_phase.specs.Adding.{terms_with};
+ghost use Rattle.ps_phase.specs.Phases.{phase_value, phase_occurs, IsPhasePoly};
+
+use super::lifting::fill_lift;
+use ps_bool::BoolPoly;
+use ps_mono::Mono;
+use ps_phase::{PhasePoly, Term};
+use std::alloc::{AllocError, Global};
+
+/// The polynomial with the whole number of `by`, 0 or 1, in place of variable `v`. Where `v` stands
+/// in `by`, it keeps its meaning there. Only the terms with `v` are multiplied out and sorted; the
+/// others are merged in. `AllocError` is want of memory.
+pub fn subst_phase(
+    alloc: Global,
+    poly: &PhasePoly,
+    v: u16,
+    by: &BoolPoly,
+) -> Result<PhasePoly, AllocError>
+    requires { v < 512 }
+    ensures value { IfOk result (λ p. (a : ℕ → Bool) → phase_value p a % 4294967296 ≡ phase_value poly.now (with_value a v (bool_value by.now a)) % 4294967296) }
+    ensures variables { IfOk result (λ p. (u : ℕ) → phase_occurs u p ≡ true → ((phase_occurs u poly.now && not (nat_eq u v)) || occurs u by.now) ≡ true) }
+    ensures form { IfOk result (λ p. IsPhasePoly p) }
+{
+    let products = PhasePoly::gather(replaced(alloc, poly, v, by)?)?;
+    let mut sum = poly.terms_without(v)?;
+    sum.add_to(&products)?;
+    Ok(sum)
+}
+
+// The terms with v, with the lift of `by` in its place.
+fn replaced(
+    alloc: Global,
+    poly: &PhasePoly,
+    v: u16,
+    by: &BoolPoly,
+) -> Result<Vec<Term>, AllocError>
+    requires { v < 512 }
+    ensures value { IfOk result (λ w. (a : ℕ → Bool) → phase_value w.items a % 4294967296 ≡ phase_value (terms_with v poly.now) (with_value a v (bool_value by.now a)) % 4294967296) }
+    ensures variables { IfOk result (λ w. (u : ℕ) → phase_occurs u w.items ≡ true → ((phase_occurs u poly.now && not (nat_eq u v)) || occurs u by.now) ≡ true) }
+{
+    let mut out = Vec::new(alloc);
+    let mut products = Vec::new(alloc);
+    for term in poly.terms() {
+        if term.mono.contains(v) {
+            fill_lift(&mut products, by, term.phase)?;
+            push_multiples(&mut out, &term.mono.removed(v), &products)?;
+        }
+    }
+    Ok(out)
+}
+
+// The products of the monomial with the terms, at the end.
+fn push_multiples(out: &mut Vec<Term>, mono: &Mono, terms: &[Term]) -> Result<(), AllocError>
+    ensures value { OnOk result ((a : ℕ → Bool) → phase_value out.new.items a ≡ phase_value out.old.items a + times (holds mono.now a) (phase_value terms.now a)) }
+    ensures variables { OnOk result ((u : ℕ) → stands u mono.now ≡ false → phase_occurs u terms.now ≡ false → phase_occurs u out.old.items ≡ false → phase_occurs u out.new.items ≡ false) }
+{
+    for term in terms {
+        out.push(Term {
+            mono: mono.union(&term.mono),
+            phase: term.phase,
+        })?;
+    }
+    Ok(())
+}
