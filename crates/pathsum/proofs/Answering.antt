@@ -73,6 +73,7 @@ passed_one n c d A p r = by (cases_order p.place r.place)
   where
     same_prim : p.place ≡ r.place → p.prim ≡ r.prim
     same_prim e = p.there ∙ get_or_default A p.place p.prim r.prim p.below ∙ ap (λ i. get_or A i r.prim) e ∙ sym r.there
+
     by : ((p.place ≡ r.place) ⊎ ((p.place < r.place) ⊎ (r.place < p.place))) → c ≡ d
     by (inl e) = raw_one n (take p.place A) p.prim c d p.made (subst (λ (i : ℕ). RawCount n (take i A) p.prim d) (sym e) (subst (λ (g : Prim). RawCount n (take r.place A) g d) (sym (same_prim e)) r.made))
     by (inr (inl l)) = let k : c ≤ 65536 = r.first p.place p.prim c l p.there p.made in absurd (omega (arith, k, p.over))

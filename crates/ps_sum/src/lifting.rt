@@ -27,11 +27,7 @@ pub fn lift(alloc: Global, poly: &BoolPoly, by: Phase) -> Result<PhasePoly, Allo
 
 // The terms of the lift in place of those that stand there, in no order, and several may have one
 // monomial.
-pub(crate) fn fill_lift(
-    terms: &mut Vec<Term>,
-    poly: &BoolPoly,
-    by: Phase,
-) -> Result<(), AllocError>
+pub(crate) fn fill_lift(terms: &mut Vec<Term>, poly: &BoolPoly, by: Phase) -> Result<(), AllocError>
     ensures value { OnOk result ((a : ℕ → Bool) → phase_value terms.new.items a % 4294967296 ≡ times (bool_value poly.now a) by % 4294967296) }
     ensures variables { OnOk result ((v : ℕ) → phase_occurs v terms.new.items ≡ true → occurs v poly.now ≡ true) }
 {

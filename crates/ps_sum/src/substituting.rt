@@ -32,12 +32,7 @@ pub fn subst_phase(
 }
 
 // The terms with v, with the lift of `by` in its place.
-fn replaced(
-    alloc: Global,
-    poly: &PhasePoly,
-    v: u16,
-    by: &BoolPoly,
-) -> Result<Vec<Term>, AllocError>
+fn replaced(alloc: Global, poly: &PhasePoly, v: u16, by: &BoolPoly) -> Result<Vec<Term>, AllocError>
     requires { v < 512 }
     ensures value { IfOk result (λ w. (a : ℕ → Bool) → phase_value w.items a % 4294967296 ≡ phase_value (terms_with v poly.now) (with_value a v (bool_value by.now a)) % 4294967296) }
     ensures variables { IfOk result (λ w. (u : ℕ) → phase_occurs u w.items ≡ true → ((phase_occurs u poly.now && not (nat_eq u v)) || occurs u by.now) ≡ true) }
