@@ -12,6 +12,7 @@ use std::marker::Model;
 /// A Boolean polynomial: a sum modulo 2 of distinct monomials, in the order of `Mono::compare`.
 ///
 /// Each polynomial has one form only: two that are equal at each assignment have the same monomials.
+/// Where a call answers `Err`, memory was wanting, and its arguments are as they were.
 #[derive(Drop)]
 pub struct BoolPoly {
     monos: Vec<Mono>,
@@ -77,8 +78,10 @@ impl BoolPoly {
 
     /// The sum modulo 2, by one merge of the two lists.
     pub fn xor(&self, other: &BoolPoly) -> Result<BoolPoly, AllocError>
-        ensures value { IfOk result (λ p. (a : ℕ → Bool) → bool_value p a ≡ differ (bool_value self.now a) (bool_value other.now a)) }
-        ensures variables { IfOk result (λ p. (v : ℕ) → occurs v p ≡ true → (occurs v self.now || occurs v other.now) ≡ true) }
+        ensures value { IfOk result (λ p. (a : ℕ → Bool) →
+            bool_value p a ≡ differ (bool_value self.now a) (bool_value other.now a)) }
+        ensures variables { IfOk result (λ p. (v : ℕ) →
+            occurs v p ≡ true → (occurs v self.now || occurs v other.now) ≡ true) }
         ensures form { IfOk result (λ p. IsPoly p) }
     {
         let monos = merged(*self.monos.allocator(), &self.monos, &other.monos)?;
@@ -87,8 +90,10 @@ impl BoolPoly {
 
     /// The product.
     pub fn and(&self, other: &BoolPoly) -> Result<BoolPoly, AllocError>
-        ensures value { IfOk result (λ p. (a : ℕ → Bool) → bool_value p a ≡ (bool_value self.now a && bool_value other.now a)) }
-        ensures variables { IfOk result (λ p. (v : ℕ) → occurs v p ≡ true → (occurs v self.now || occurs v other.now) ≡ true) }
+        ensures value { IfOk result (λ p. (a : ℕ → Bool) →
+            bool_value p a ≡ (bool_value self.now a && bool_value other.now a)) }
+        ensures variables { IfOk result (λ p. (v : ℕ) →
+            occurs v p ≡ true → (occurs v self.now || occurs v other.now) ≡ true) }
         ensures form { IfOk result (λ p. IsPoly p) }
     {
         let products = products(*self.monos.allocator(), &self.monos, &other.monos)?;
@@ -100,8 +105,10 @@ impl BoolPoly {
     /// others are merged in.
     pub fn subst(&self, v: u16, by: &BoolPoly) -> Result<BoolPoly, AllocError>
         requires { v < 512 }
-        ensures value { IfOk result (λ p. (a : ℕ → Bool) → bool_value p a ≡ bool_value self.now (with_value a v (bool_value by.now a))) }
-        ensures variables { IfOk result (λ p. (u : ℕ) → occurs u p ≡ true → ((occurs u self.now && not (nat_eq u v)) || occurs u by.now) ≡ true) }
+        ensures value { IfOk result (λ p. (a : ℕ → Bool) →
+            bool_value p a ≡ bool_value self.now (with_value a v (bool_value by.now a))) }
+        ensures variables { IfOk result (λ p. (u : ℕ) → occurs u p ≡ true →
+            ((occurs u self.now && not (nat_eq u v)) || occurs u by.now) ≡ true) }
         ensures form { IfOk result (λ p. IsPoly p) }
     {
         let alloc = *self.monos.allocator();
