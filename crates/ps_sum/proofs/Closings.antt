@@ -1,9 +1,9 @@
 -- Names close up.
-use Rattle.std.proofs.Common.{◌≡◌, ◌≢◌, ℕ, zero, suc, ◌+◌, ◌-◌, ◌%◌, refl, ap, ap₂, sym, ◌∙◌, subst, arith, ◌<◌, ◌≤◌, Bool, true, false, cond, nat_eq, nat_lt, ◌&&◌, ◌||◌, List, [], ◌∷◌, ◌++◌, length, take, get_or, ◌⊎◌, inl, inr}
+use Rattle.std.proofs.Common.{◌≡◌, ℕ, zero, suc, ◌+◌, ◌-◌, ◌%◌, refl, ap, ap₂, sym, ◌∙◌, arith, ◌<◌, ◌≤◌, Bool, true, false, cond, nat_eq, nat_lt, ◌||◌, List, [], ◌∷◌, ◌++◌, length, take, get_or, ◌⊎◌, inl, inr}
 use Rattle.std.proofs.lemmas.Bool.Decides.{nat_tests}
 use Rattle.std.proofs.lemmas.List.{take_more, take_all}
 use Rattle.ps_mono.specs.Sets.{holds, stands}
-use Rattle.ps_mono.specs.Lists.{nat_eq_same, nat_eq_true}
+use Rattle.ps_mono.specs.Lists.{nat_eq_true}
 use Rattle.ps_mono.specs.Truth.{times, differ}
 use Rattle.ps_mono.proofs.Laws.{holds_at, fails}
 use Rattle.ps_mono.proofs.Truths.{holds_all, holds_not}

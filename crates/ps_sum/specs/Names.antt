@@ -1,5 +1,5 @@
 -- Names close up where a variable is gone.
-use Rattle.std.specs.Prelude.{ℕ, suc, ◌-◌, Bool, cond, nat_lt}
+use Rattle.std.specs.Prelude.{ℕ, suc, ◌-◌, cond, nat_lt}
 
 -- the new name of u once v is gone
 unfoldable pub closed : ℕ → ℕ → ℕ

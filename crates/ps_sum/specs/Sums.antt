@@ -1,6 +1,6 @@
 -- What a path sum stands for.
-use Rattle.std.specs.Prelude.{ℕ, Bool, List, ◌++◌}
-use Rattle.ps_ring.specs.Truths.{Truths, bit}
+use Rattle.std.specs.Prelude.{◌++◌}
+use Rattle.ps_ring.specs.Truths.{bit}
 use Rattle.ps_ring.specs.Sums.{PathValues}
 use Rattle.ps_phase.specs.Phases.{phase_value}
 use Rattle.ps_sum.specs.Outs.{values}

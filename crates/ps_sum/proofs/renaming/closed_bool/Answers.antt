@@ -1,4 +1,4 @@
-use Rattle.std.proofs.Common.{ap, sym, ◌∙◌}
+use Rattle.std.proofs.Common.{ap, ◌∙◌}
 use Rattle.ps_bool.specs.Polys.{occurs}
 use Rattle.ps_sum.proofs.Lifts.{mono_free}
 use Rattle.ps_sum.proofs.Closings.{monos_start, monos_more, monos_value, monos_free}

@@ -1,5 +1,5 @@
-use Rattle.std.proofs.Common.{inl, inr, sym, ◌∙◌, refl, subst, ℕ, ◌<◌}
-use Rattle.ps_sum.proofs.Closings.{closed_start, closed_more, closed_end, name_is}
+use Rattle.std.proofs.Common.{inl, inr, subst, ℕ, ◌<◌}
+use Rattle.ps_sum.proofs.Closings.{closed_start, closed_more, name_is}
 use Rattle.ps_sum.proofs.renaming.closed_mono.Goals as goal
 use Rattle.ps_sum.proofs.renaming.closed_mono.Goals.{then-u-v, else-u-v}
 

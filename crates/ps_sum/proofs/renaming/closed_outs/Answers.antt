@@ -1,4 +1,4 @@
-use Rattle.std.proofs.Common.{ap, sym, ◌∙◌}
+use Rattle.std.proofs.Common.{ap, ◌∙◌}
 use Rattle.ps_sum.specs.Outs.{outs_occur}
 use Rattle.ps_sum.proofs.Closings.{outs_start, outs_get, outs_more, outs_value, outs_free}
 use Rattle.ps_sum.proofs.renaming.closed_outs.Goals as goal
