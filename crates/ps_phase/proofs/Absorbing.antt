@@ -1,12 +1,12 @@
 -- Terms added to those that stand there.
-use Rattle.std.proofs.Common.{◌≡◌, ◌≢◌, ℕ, zero, suc, ◌+◌, ◌%◌, refl, ap, ap₂, sym, ◌∙◌, subst, arith, ◌<◌, ◌≤◌, Bool, true, false, cond, nat_eq, ◌||◌, List, [], ◌∷◌, ◌++◌, length, drop, take, get_or, drop_of_length-le, Less, set, not}
+use Rattle.std.proofs.Common.{◌≡◌, ◌≢◌, ℕ, zero, suc, ◌+◌, ◌%◌, refl, ap, ap₂, sym, ◌∙◌, subst, arith, ◌<◌, ◌≤◌, Bool, true, false, cond, nat_eq, ◌||◌, List, [], ◌∷◌, ◌++◌, length, drop, take, get_or, set, not}
 use Rattle.std.specs.Cmp.Lexicographic.{pointwise}
 use Rattle.std.proofs.lemmas.List.{take_more, take_all}
 use Rattle.std.proofs.lemmas.List.Sums.{sum_by-set}
 use Rattle.ps_phase.specs.declared.terms.Term.{Term}
 use Rattle.ps_mono.specs.Sets.{mono_cmp, holds, stands, IsVarSet}
 use Rattle.ps_mono.specs.Truth.{times}
-use Rattle.ps_phase.specs.Phases.{phase_value, phase_occurs, coefficient, TermBefore, IsTerm, IsPhasePoly}
+use Rattle.ps_phase.specs.Phases.{phase_value, phase_occurs, coefficient, TermBefore, IsPhasePoly}
 use Rattle.ps_phase.specs.Placing.{IsPlace, FitsOne, Fits, Absorbed}
 use Rattle.ps_phase.proofs.Adding.{M, cut}
 use Rattle.ps_phase.proofs.Values.{skipped, coefficient_at, later_differs, phase_more}

@@ -3,9 +3,10 @@ use Rattle.std.proofs.Common.{◌≡◌, ◌≢◌, ℕ, zero, suc, ◌+◌, ◌
 use Rattle.std.proofs.lemmas.Bool.Decides.{nat_tests}
 use Rattle.std.proofs.lemmas.Bool.{cases_lt}
 use Rattle.std.proofs.lemmas.List.{take_more, take_all}
-use Rattle.std.proofs.Math.Nat.{mul-div_cancel_left, mul-le-mul_left, mul-le-mul_right}
+use Rattle.std.proofs.Math.Nat.{mul-div_cancel_left, mul-le-mul_right}
 use Rattle.ps_phase.specs.declared.terms.Term.{Term}
 use Rattle.ps_mono.specs.Sets.{stands}
+use Rattle.ps_sum.specs.Outs.{monomials}
 use Rattle.ps_sum.specs.Counts.{binomial, subsets, twos, raw_term, raw_phase, raw_bool}
 
 abbrev CAP : ℕ
@@ -196,3 +197,22 @@ phase_end v t i n p xs ep h e = e ∙ ap (λ (r : List Term). min (raw_phase v t
 
 pub bool_end : (v t i n : ℕ) (p f : List (List ℕ)) → f ≡ p → length f ≤ i → n ≡ min (raw_bool v t (take i f)) CAP → n ≡ min (raw_bool v t p) CAP
 bool_end v t i n p f ep h e = e ∙ ap (λ (r : List (List ℕ)). min (raw_bool v t r) CAP) (take_all i f h ∙ ep)
+
+-- ---- sizes
+pub size_start : (p n k : ℕ) (fs : List (List (List ℕ))) → n ≡ p → k ≡ min n CAP → k ≡ min (p + monomials (take 0 fs)) CAP
+unfolding monomials
+size_start p n k fs e f = omega arith
+
+monomials_push : (fs : List (List (List ℕ))) (f : List (List ℕ)) → monomials (fs ++ f ∷ []) ≡ monomials fs + length f
+unfolding monomials
+monomials_push [] f = omega arith
+monomials_push (g ∷ fs) f = omega (arith, monomials_push fs f)
+
+-- n is the length of the polynomial at i, m is n capped, and k is the new total
+pub size_more : (p : ℕ) (fs : List (List (List ℕ))) (i : ℕ) (f : List (List ℕ)) (t n m k : ℕ) → i < length fs → f ≡ get_or fs i f → n ≡ length f → m ≡ min n CAP → k ≡ min (t + m) CAP → t ≡ min (p + monomials (take i fs)) CAP → k ≡ min (p + monomials (take (i + 1) fs)) CAP
+size_more p fs i f t n m k h ef en em ek e =
+    let q = ap (λ (r : List (List (List ℕ))). monomials r) (take_more fs i f h ∙ ap (λ (r : List (List ℕ)). take i fs ++ r ∷ []) (sym ef)) ∙ monomials_push (take i fs) f in
+    omega arith
+
+pub size_end : (p : ℕ) (q fs : List (List (List ℕ))) (i t : ℕ) → fs ≡ q → length fs ≤ i → t ≡ min (p + monomials (take i fs)) CAP → t ≡ min (p + monomials q) CAP
+size_end p q fs i t eq h e = e ∙ ap (λ (r : List (List (List ℕ))). min (p + monomials r) CAP) (take_all i fs h ∙ eq)

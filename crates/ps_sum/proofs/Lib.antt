@@ -1,3 +1,4 @@
 pub mod Lifts
 pub mod Counting
 pub mod Substitutes
+pub mod Closings

@@ -1,16 +1,16 @@
 -- A polynomial in place of a variable.
-use Rattle.std.proofs.Common.{◌≡◌, ◌≢◌, ℕ, zero, suc, ◌+◌, ◌*◌, ◌%◌, refl, ap, ap₂, sym, ◌∙◌, subst, arith, ◌<◌, ◌≤◌, Bool, true, false, cond, not, nat_eq, ◌&&◌, ◌||◌, List, [], ◌∷◌, ◌++◌, length, drop, take, get_or}
+use Rattle.std.proofs.Common.{◌≡◌, ℕ, ◌+◌, ◌%◌, refl, ap, ap₂, sym, ◌∙◌, arith, ◌<◌, ◌≤◌, Bool, true, false, cond, not, nat_eq, ◌&&◌, ◌||◌, List, [], ◌∷◌, ◌++◌, length, take, get_or}
 use Rattle.std.proofs.lemmas.List.{take_more, take_all}
 use Rattle.ps_phase.specs.declared.terms.Term.{Term}
 use Rattle.ps_mono.specs.Sets.{holds, stands}
-use Rattle.ps_mono.specs.Lists.{nat_eq_same, nat_eq_true}
+use Rattle.ps_mono.specs.Lists.{nat_eq_true}
 use Rattle.ps_mono.specs.Truth.{times, differ, with_value}
 use Rattle.ps_mono.proofs.Laws.{holds_union}
 use Rattle.ps_bool.specs.Polys.{bool_value, occurs}
 use Rattle.ps_bool.proofs.Replacing.{holds_replaced}
 use Rattle.ps_phase.specs.Phases.{phase_value, phase_occurs}
-use Rattle.ps_phase.specs.Adding.{terms_where, terms_with, terms_without}
-use Rattle.ps_phase.proofs.Adding.{M, neither, no_or, times_none}
+use Rattle.ps_phase.specs.Adding.{terms_where}
+use Rattle.ps_phase.proofs.Adding.{M, no_or, times_none}
 use Rattle.ps_phase.proofs.Scaling.{split_value}
 use Rattle.ps_phase.proofs.Values.{phase_append, one_value, phase_more, free_push, occurs_at, phase_agree}
 use Rattle.ps_sum.proofs.Lifts.{occurs_get}

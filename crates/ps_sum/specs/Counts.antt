@@ -1,5 +1,5 @@
 -- How many terms a substitution makes before any are added.
-use Rattle.std.specs.Prelude.{ℕ, zero, suc, ◌+◌, ◌-◌, ◌%◌, ◌^◌, Bool, cond, nat_eq, min, List, [], ◌∷◌}
+use Rattle.std.specs.Prelude.{ℕ, zero, suc, ◌+◌, ◌-◌, ◌%◌, ◌^◌, cond, nat_eq, min, List, [], ◌∷◌}
 use Rattle.ps_phase.specs.declared.terms.Term.{Term}
 use Rattle.ps_mono.specs.Sets.{stands}
 

@@ -1,13 +1,22 @@
-//! Path sums: Boolean polynomials as whole numbers, substitution, and how many terms it makes.
+//! Path sums: Boolean polynomials as whole numbers, substitution, how many terms it makes, and the
+//! sums themselves.
 #![tactic(auto)]
 
 pub mod counts;
+pub mod faults;
 pub mod lifting;
+pub mod outputs;
+mod renaming;
+pub mod sizes;
 pub mod substituting;
+pub mod sums;
 
 pub use counts::{raw_bool, raw_phase, raw_term};
+pub use faults::{JoinFault, Passed, What};
 pub use lifting::lift;
+pub use outputs::Outputs;
 pub use substituting::subst_phase;
+pub use sums::PathSum;
 
 #[cfg(test)]
 mod tests;

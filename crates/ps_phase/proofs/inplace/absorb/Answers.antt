@@ -1,4 +1,4 @@
-use Rattle.ps_phase.proofs.Absorbing.{absorbing_start, absorbing_more, absorbing_fits, absorbing_value}
+use Rattle.ps_phase.proofs.Absorbing.{absorbing_start, absorbing_more}
 use Rattle.ps_phase.proofs.inplace.absorb.Goals as goal
 
 pub loop-other-init : goal.loop-other-init

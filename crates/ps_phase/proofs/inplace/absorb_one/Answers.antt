@@ -1,4 +1,4 @@
-use Rattle.std.proofs.Common.{refl, subst, sym, ap, ◌∙◌, get_or, List}
+use Rattle.std.proofs.Common.{refl, subst, List}
 use Rattle.ps_phase.specs.declared.terms.Term.{Term}
 use Rattle.ps_phase.specs.Placing.{IsPlace}
 use Rattle.ps_phase.proofs.Absorbing.{absorbed_one}

@@ -1,4 +1,3 @@
-use Rattle.std.proofs.Common.{arith}
 use Rattle.ps_phase.proofs.Absorbing.{fits_at, not_zero}
 use Rattle.ps_phase.proofs.inplace.fits_one.Goals as goal
 

@@ -1,4 +1,4 @@
-use Rattle.std.proofs.Common.{inl, inr, ap, sym, ◌∙◌, ◌+◌, length, min}
+use Rattle.std.proofs.Common.{inl, inr, ap, ◌∙◌, length, min}
 use Rattle.ps_sum.proofs.Counting.{start_bool, bool_more, bool_end}
 use Rattle.ps_sum.proofs.counts.raw_bool.Goals as goal
 use Rattle.ps_sum.proofs.counts.raw_bool.Goals.{then-contains, else-contains}

@@ -1,4 +1,4 @@
-use Rattle.std.proofs.Common.{◌≡◌, ◌≤◌, take, min, length}
+use Rattle.std.proofs.Common.{◌≡◌, take, min, length}
 use Rattle.ps_sum.specs.Counts.{raw_bool}
 use Rattle.ps_sum.proofs.counts.raw_bool.Given as goal
 

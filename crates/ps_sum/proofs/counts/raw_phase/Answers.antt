@@ -1,4 +1,4 @@
-use Rattle.std.proofs.Common.{inl, inr, ap, sym, ◌∙◌, ◌+◌, length, min}
+use Rattle.std.proofs.Common.{inl, inr, ap, ◌∙◌, length, min}
 use Rattle.ps_sum.specs.Counts.{raw_term}
 use Rattle.ps_sum.proofs.Counting.{start_phase, phase_more, phase_end}
 use Rattle.ps_sum.proofs.counts.raw_phase.Goals as goal

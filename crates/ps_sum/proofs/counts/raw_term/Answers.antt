@@ -1,5 +1,5 @@
-use Rattle.std.proofs.Common.{ap, sym, ◌∙◌, arith}
-use Rattle.ps_sum.proofs.Counting.{Power, raw_none, raw_one, raw_many, raw_over, raw_end, binomial_zero, subsets_none, ways_step, subsets_next}
+use Rattle.std.proofs.Common.{sym, arith}
+use Rattle.ps_sum.proofs.Counting.{raw_none, raw_one, raw_many, raw_over, raw_end, binomial_zero, subsets_none, ways_step, subsets_next}
 use Rattle.ps_sum.proofs.counts.raw_term.Goals as goal
 
 pub returns-then-most-eq0 : goal.returns-then-most-eq0

@@ -1,4 +1,4 @@
-use Rattle.std.proofs.Common.{◌≡◌, ◌≤◌, ◌<◌, length}
+use Rattle.std.proofs.Common.{◌≡◌, ◌≤◌, ◌<◌}
 use Rattle.ps_sum.specs.Counts.{binomial, subsets}
 use Rattle.ps_sum.proofs.counts.raw_term.Given as goal
 

@@ -1,4 +1,4 @@
-use Rattle.std.proofs.Common.{refl, ap, sym, ◌∙◌, ◌*◌, ◌%◌, vec_items, arith}
+use Rattle.std.proofs.Common.{refl, ap, sym, ◌∙◌, ◌*◌, ◌%◌, vec_items}
 use Rattle.ps_sum.proofs.Lifts.{pushed_start, pushed_more, pushed_skip, pushed_value, pushed_free}
 use Rattle.ps_sum.proofs.lifting.push_products.Goals as goal
 use Rattle.ps_sum.proofs.lifting.push_products.Goals.{then-units-ne0+in_ok-push-2, else-units-ne0}

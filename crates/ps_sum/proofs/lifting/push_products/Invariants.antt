@@ -1,4 +1,3 @@
-use Rattle.std.proofs.Common.{◌≡◌, length}
 use Rattle.ps_sum.proofs.Lifts.{Pushed}
 use Rattle.ps_sum.proofs.lifting.push_products.Given as goal
 

@@ -1,8 +1,4 @@
-use Rattle.std.proofs.Common.{refl, ap, sym, ◌∙◌, vec_items, ◌+◌, List, ◌≡◌}
-use Rattle.ps_mono.specs.Sets.{holds}
-use Rattle.ps_mono.specs.Truth.{times}
-use Rattle.ps_phase.specs.declared.terms.Term.{Term}
-use Rattle.ps_phase.specs.Phases.{phase_value, phase_occurs}
+use Rattle.std.proofs.Common.{ap, sym, ◌∙◌, vec_items}
 use Rattle.ps_sum.proofs.Substitutes.{replacing_start, replacing_pushed, replacing_without, replacing_value, replacing_free}
 use Rattle.ps_sum.proofs.substituting.replaced.Goals as goal
 use Rattle.ps_sum.proofs.substituting.replaced.Goals.{then-contains+in_ok-fill_lift+in_ok-push_multiples, else-contains}
