@@ -1,0 +1,12 @@
+use Rattle.std.proofs.Common.{◌≡◌, ℕ, ◌<◌, length, ap, sym, ◌∙◌, arith}
+use Rattle.std.specs.Prelude.{Some, slice_set}
+use Rattle.ps_versions.proofs.Lookups.{kept-set}
+use Rattle.ps_versions.proofs.versions.Versions.store.Goals as goal
+
+pub returns-clause-kept : goal.returns-clause-kept
+returns-clause-kept g c =
+    let rs = c.self.inside.records.items in
+    let near : c.number.result < length rs = omega (arith, c.number.ensures, c.self.invariant.recorded, ap (λ h. length h.nodes) c.self.view_is, c.requires.there) in
+    kept-set rs c.number.result (record { entry = c.args.entry; kept = c.args.kept }) near
+      ∙ ap (λ h. slice_set h.kept c.number.result (Some (c.args.entry, c.args.kept))) c.self.view_is
+      ∙ ap (λ n. slice_set c.args.self.now.kept n (Some (c.args.entry, c.args.kept))) c.number.ensures

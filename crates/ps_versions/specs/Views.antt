@@ -1,0 +1,38 @@
+-- What is seen of the fields.
+use Rattle.std.specs.Prelude.{ℕ, ◌≡◌, ◌<◌, ◌≤◌, ◌^◌, List, [], ◌∷◌, Option, Some, None, length, slice_get}
+use Rattle.ps_versions.specs.Held.{Held, Version, Circuit}
+use Rattle.ps_versions.specs.Records.{IsOnce}
+use Rattle.ps_versions.specs.declared.data.Edition.{Edition}
+use Rattle.ps_versions.specs.declared.data.Course.{Course}
+use Rattle.ps_versions.specs.declared.data.Stored.{Stored}
+use Rattle.ps_versions.specs.declared.versions.Versions.TheInside.{Inside}
+
+abbrev pub version_of : Edition → Version
+version_of e = record { root = e.root; retired = e.retired; ended = e.ended; pins = e.pins }
+
+abbrev pub versions_of : List Edition → List Version
+versions_of [] = []
+versions_of (e ∷ es) = version_of e ∷ versions_of es
+
+abbrev pub circuit_of : List ℕ → Course → Circuit
+circuit_of name c = record { name = name; qubits = c.qubits; opened = c.opened; versions = versions_of c.editions.items }
+
+abbrev pub circuits_of : List (List ℕ) → List Course → List Circuit
+circuits_of (n ∷ ns) (c ∷ cs) = circuit_of n c ∷ circuits_of ns cs
+circuits_of ns cs = []
+
+module _ {R : Type 0} where
+  abbrev pub kept_of : List (Option (Stored R)) → List (Option (ℕ × R))
+  kept_of [] = []
+  kept_of (None ∷ rs) = None ∷ kept_of rs
+  kept_of (Some r ∷ rs) = Some (r.entry, r.kept) ∷ kept_of rs
+
+  abbrev pub seen : Inside R → Held R
+  seen a = record { circuits = circuits_of a.names.keys a.courses.items; nodes = a.nodes; kept = kept_of a.records.items }
+
+  pub record IsSound (a : Inside R) : Type 0 where
+    pub named : length a.names.keys ≡ length a.courses.items
+    pub recorded : length a.records.items ≡ length a.nodes
+    pub numbered : (i : ℕ) (c : Course) → slice_get a.courses.items i ≡ Some c → length c.editions.items < 2 ^ 32
+    pub once : (i j : ℕ) (c : Course) (e : Edition) → slice_get a.courses.items i ≡ Some c → slice_get c.editions.items j ≡ Some e → IsOnce a.nodes e.root
+    pub pinned : (i j : ℕ) (c : Course) (e : Edition) → slice_get a.courses.items i ≡ Some c → slice_get c.editions.items j ≡ Some e → e.pins ≤ 128

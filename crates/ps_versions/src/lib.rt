@@ -1,0 +1,11 @@
+//! Circuits by name, with their versions, pins and the records of their segments.
+#![tactic(auto)]
+
+pub mod data;
+pub mod kept;
+pub mod lives;
+pub mod versions;
+
+pub use data::{About, State};
+pub use kept::Kept;
+pub use versions::Versions;
