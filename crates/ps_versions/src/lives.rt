@@ -77,12 +77,6 @@ fn ended_after(retired: Option<u32>, pins: u32, entry: u32, ended: Option<u32>) 
 {
     match retired {
         None => ended,
-        Some(_) => {
-            if pins == 0 {
-                Some(entry)
-            } else {
-                ended
-            }
-        }
+        Some(_) => { if pins == 0 { Some(entry) } else { ended } }
     }
 }

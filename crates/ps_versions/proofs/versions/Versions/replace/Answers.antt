@@ -48,9 +48,9 @@ invariant_of-self g c =
       recorded = c.self.invariant.recorded;
       numbered = each_set (λ x. length x.editions.items < 4294967296) cs i _ c.self.invariant.numbered (omega (arith, length-set es (v - 1) c.args.edition, c.self.invariant.numbered i course got));
       once = λ k j x y h r. each_set (λ z. (j : ℕ) (y : Edition) → slice_get z.editions.items j ≡ Some y → IsOnce nodes y.root) cs i _ (λ k x h j y r. c.self.invariant.once k j x y h r)
-        (each_set (λ y. IsOnce nodes y.root) es (v - 1) c.args.edition (λ j y r. c.self.invariant.once i j course y got r) once) k x h j y r;
+          (each_set (λ y. IsOnce nodes y.root) es (v - 1) c.args.edition (λ j y r. c.self.invariant.once i j course y got r) once) k x h j y r;
       pinned = λ k j x y h r. each_set (λ z. (j : ℕ) (y : Edition) → slice_get z.editions.items j ≡ Some y → y.pins ≤ 128) cs i _ (λ k x h j y r. c.self.invariant.pinned k j x y h r)
-        (each_set (λ y. y.pins ≤ 128) es (v - 1) c.args.edition (λ j y r. c.self.invariant.pinned i j course y got r) c.requires.pins) k x h j y r;
+          (each_set (λ y. y.pins ≤ 128) es (v - 1) c.args.edition (λ j y r. c.self.invariant.pinned i j course y got r) c.requires.pins) k x h j y r;
     }
 
 pub returns-clause-circuits : goal.returns-clause-circuits
@@ -68,6 +68,6 @@ returns-clause-circuits g c =
     let es = course.editions.items in
     let w = version_of c.args.edition in
     circuits-set keys cs i course _ (with_version v w) c.self.invariant.named got
-      (λ n. ap (λ vs. record { name = n; qubits = course.qubits; opened = course.opened; versions = vs }) (versions-set es (v - 1) c.args.edition below))
-      ∙ ap (λ h. change_at h.circuits i (with_version v w)) c.self.view_is
-      ∙ ap (λ o. replaced_in c.args.self.now.circuits o v w) c.in-Some.ensures.place
+    (λ n. ap (λ vs. record { name = n; qubits = course.qubits; opened = course.opened; versions = vs }) (versions-set es (v - 1) c.args.edition below))
+    ∙ ap (λ h. change_at h.circuits i (with_version v w)) c.self.view_is
+    ∙ ap (λ o. replaced_in c.args.self.now.circuits o v w) c.in-Some.ensures.place

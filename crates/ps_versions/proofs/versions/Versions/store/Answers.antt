@@ -8,5 +8,5 @@ returns-clause-kept g c =
     let rs = c.self.inside.records.items in
     let near : c.number.result < length rs = omega (arith, c.number.ensures, c.self.invariant.recorded, ap (λ h. length h.nodes) c.self.view_is, c.requires.there) in
     kept-set rs c.number.result (record { entry = c.args.entry; kept = c.args.kept }) near
-      ∙ ap (λ h. slice_set h.kept c.number.result (Some (c.args.entry, c.args.kept))) c.self.view_is
-      ∙ ap (λ n. slice_set c.args.self.now.kept n (Some (c.args.entry, c.args.kept))) c.number.ensures
+    ∙ ap (λ h. slice_set h.kept c.number.result (Some (c.args.entry, c.args.kept))) c.self.view_is
+    ∙ ap (λ n. slice_set c.args.self.now.kept n (Some (c.args.entry, c.args.kept))) c.number.ensures
