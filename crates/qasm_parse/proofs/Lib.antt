@@ -1,0 +1,4 @@
+pub mod Rank
+pub mod One
+pub mod Answering
+pub mod Passing

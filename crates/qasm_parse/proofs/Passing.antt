@@ -1,0 +1,89 @@
+-- Faults that are passed on, and lists, one thing after another.
+use Rattle.std.proofs.Common.{◌≡◌, ◌≢◌, ℕ, ◌+◌, ◌<◌, ◌≤◌, List, [], ◌∷◌, ◌++◌, length, refl, sym, ◌∙◌, ap, subst, append_assoc, Result, Ok, Err, Bool, true, false, not}
+use Rattle.std.proofs.lemmas.List.{get_or_past}
+use Rattle.qasm_parse.specs.declared.sort.Sort.{Sort}
+use Rattle.qasm_parse.specs.declared.sort.Sort.TheVariants.{Comma, End}
+use Rattle.qasm_parse.specs.declared.fault.ParseFault.{ParseFault}
+use Rattle.qasm_parse.specs.declared.fault.ParseFault.TheVariants.{Version, Syntax, NotUnitary, Include, Opaque, Deep, Memory}
+use Rattle.qasm_parse.specs.Grammar.{at}
+use Rattle.qasm_parse.specs.Phrases.{Got, got, miss, put, Listed, final, next, missing, Told, Listing, Stands}
+
+module _ {A : Type 0} (ts : List Sort) (thing : ℕ → Got A → Type 0) where
+  put_put : (xs ys : List A) (r : Got (List A)) → put xs (put ys r) ≡ put (xs ++ ys) r
+  put_put xs ys (got zs j) = ap (λ x. got x j) (sym (append_assoc xs ys zs))
+  put_put xs ys (miss f) = refl
+
+  abbrev pub Rest : ℕ → ℕ → List A → Type 0
+  Rest i j xs = (r : Got (List A)) → Listed ts thing j r → Listed ts thing i (put xs r)
+
+  pub rest_none : (i : ℕ) (r : Got (List A)) → Listed ts thing i r → Listed ts thing i (put [] r)
+  rest_none i (got xs j) h = h
+  rest_none i (miss f) h = h
+
+  pub one_more : (i j k : ℕ) (xs new : List A) (a : A) → Rest i j xs → thing j (got a k) → at ts k ≡ Comma → new ≡ xs ++ (a ∷ []) → Rest i (k + 1) new
+  one_more i j k xs new a h t c e r l = subst (λ x. Listed ts thing i x) (put_put xs (a ∷ []) r ∙ ap (λ x. put x r) (sym e)) (h (put (a ∷ []) r) (next t c l))
+
+  pub the_last : (i j k : ℕ) (xs new : List A) (a : A) → Rest i j xs → thing j (got a k) → at ts k ≢ Comma → new ≡ xs ++ (a ∷ []) → Listed ts thing i (got new k)
+  the_last i j k xs new a h t c e = subst (λ x. Listed ts thing i (got x k)) (sym e) (h (got (a ∷ []) k) (final t c))
+
+-- a fault that is passed on
+told_fault : {A B : Type 0} (P : Got A → Type 0) (Q : Got B → Type 0) (x : ParseFault) → ((f : ParseFault) → Q (miss f) → P (miss f)) → Told (Err x) Q → Told (Err x) P
+told_fault P Q Memory f h = tt
+told_fault P Q (Version n) f h = f (Version n) h
+told_fault P Q (Syntax n) f h = f (Syntax n) h
+told_fault P Q (NotUnitary n) f h = f (NotUnitary n) h
+told_fault P Q (Include n) f h = f (Include n) h
+told_fault P Q (Opaque n) f h = f (Opaque n) h
+told_fault P Q (Deep n) f h = f (Deep n) h
+
+abbrev pub Passed : {A : Type 0} → Result A ParseFault → ParseFault → Type 0
+Passed r x = (y : ParseFault) × (r ≡ Err y) × (y ≡ x)
+
+pub told_on : {A B : Type 0} (P : Got A → Type 0) (Q : Got B → Type 0) (x : ParseFault) (r : Result (A × ℕ) ParseFault) → Passed r x → ((f : ParseFault) → Q (miss f) → P (miss f)) → Told (Err x) Q → Told r P
+told_on P Q x r (y, e, g) f h = subst (λ z. Told z P) (sym (e ∙ ap Err g)) (told_fault P Q x f h)
+
+-- the same where the vectors are seen as their items
+listing_fault : {A B : Type 0} (view : A → B) (P : Got B → Type 0) (x : ParseFault) → Told (Err x) P → Listing view (Err x) P
+listing_fault view P Memory h = tt
+listing_fault view P (Version n) h = h
+listing_fault view P (Syntax n) h = h
+listing_fault view P (NotUnitary n) h = h
+listing_fault view P (Include n) h = h
+listing_fault view P (Opaque n) h = h
+listing_fault view P (Deep n) h = h
+
+pub told_from : {A B : Type 0} (view : A → B) (P : Got B → Type 0) (x : ParseFault) → Listing view (Err x) P → Told (Err x) P
+told_from view P Memory h = tt
+told_from view P (Version n) h = h
+told_from view P (Syntax n) h = h
+told_from view P (NotUnitary n) h = h
+told_from view P (Include n) h = h
+told_from view P (Opaque n) h = h
+told_from view P (Deep n) h = h
+
+pub listing_on : {A B C : Type 0} (view : A → B) (P : Got B → Type 0) (Q : Got C → Type 0) (x : ParseFault) (r : Result (A × ℕ) ParseFault) → Passed r x → ((f : ParseFault) → Q (miss f) → P (miss f)) → Told (Err x) Q → Listing view r P
+listing_on view P Q x r (y, e, g) f h = subst (λ z. Listing view z P) (sym (e ∙ ap Err g)) (listing_fault view P x (told_fault P Q x f h))
+
+-- a terminal that does not stand there
+pub stands_not : {A : Type 0} (P : Got A → Type 0) (ts : List Sort) (s : Sort) (i : ℕ) (x : ParseFault) → (at ts i ≢ s → P (miss (Syntax i))) → Stands ts s i (Err x) → Told (Err x) P
+stands_not P ts s i (Syntax n) f h = subst (λ k. P (miss (Syntax k))) (sym h.1) (f h.0)
+stands_not P ts s i (Version n) f h = absurd h
+stands_not P ts s i (NotUnitary n) f h = absurd h
+stands_not P ts s i (Include n) f h = absurd h
+stands_not P ts s i (Opaque n) f h = absurd h
+stands_not P ts s i (Deep n) f h = absurd h
+stands_not P ts s i Memory f h = absurd h
+
+pub told_not : {A : Type 0} (P : Got A → Type 0) (ts : List Sort) (s : Sort) (i : ℕ) (x : ParseFault) (r : Result (A × ℕ) ParseFault) → Passed r x → (at ts i ≢ s → P (miss (Syntax i))) → Stands ts s i (Err x) → Told r P
+told_not P ts s i x r (y, e, g) f h = subst (λ z. Told z P) (sym (e ∙ ap Err g)) (stands_not P ts s i x f h)
+
+pub listing_not : {A B : Type 0} (view : A → B) (P : Got B → Type 0) (ts : List Sort) (s : Sort) (i : ℕ) (x : ParseFault) (r : Result (A × ℕ) ParseFault) → Passed r x → (at ts i ≢ s → P (miss (Syntax i))) → Stands ts s i (Err x) → Listing view r P
+listing_not view P ts s i x r (y, e, g) f h = subst (λ z. Listing view z P) (sym (e ∙ ap Err g)) (listing_fault view P x (stands_not P ts s i x f h))
+
+-- a terminal that stands there is none past the end
+pub inside_if : (ts : List Sort) (s : Sort) (i : ℕ) → (s ≡ End → ⊥) → at ts i ≡ s → length ts ≤ i → ⊥
+inside_if ts s i n h le = n (sym h ∙ get_or_past ts i End le)
+
+pub was_true : (b : Bool) → false ≡ not b → b ≡ true
+was_true true h = refl
+was_true false h = cc
