@@ -3,10 +3,15 @@ use Rattle.std.proofs.Common.{◌≡◌, ◌≢◌, ℕ, ◌+◌, ◌<◌, ◌�
 use Rattle.std.proofs.lemmas.List.{get_or_past}
 use Rattle.qasm_parse.specs.declared.sort.Sort.{Sort}
 use Rattle.qasm_parse.specs.declared.sort.Sort.TheVariants.{Comma, End}
+use Rattle.qasm_lex.specs.declared.types.Token.{Token}
+use Rattle.qasm_parse.specs.declared.program.Span.{Span}
+use Rattle.qasm_parse.specs.declared.sort.Sort.TheVariants.{Id}
+use Rattle.qasm_parse.specs.declared.phrases.Form.{Form}
+use Rattle.qasm_parse.specs.declared.phrases.Form.TheVariants.{Bare, Indexed}
 use Rattle.qasm_parse.specs.declared.fault.ParseFault.{ParseFault}
 use Rattle.qasm_parse.specs.declared.fault.ParseFault.TheVariants.{Version, Syntax, NotUnitary, Include, Opaque, Deep, Memory}
 use Rattle.qasm_parse.specs.Grammar.{at}
-use Rattle.qasm_parse.specs.Phrases.{Got, got, miss, put, Listed, final, next, missing, Told, Listing, Stands}
+use Rattle.qasm_parse.specs.Phrases.{Got, got, miss, put, Listed, final, next, missing, Told, Listing, Onward, Not_back, Stands, IsSpan, there, span_of, IsArg, bare, no_name, missed}
 
 module _ {A : Type 0} (ts : List Sort) (thing : ℕ → Got A → Type 0) where
   put_put : (xs ys : List A) (r : Got (List A)) → put xs (put ys r) ≡ put (xs ++ ys) r
@@ -87,3 +92,16 @@ inside_if ts s i n h le = n (sym h ∙ get_or_past ts i End le)
 pub was_true : (b : Bool) → false ≡ not b → b ≡ true
 was_true true h = refl
 was_true false h = cc
+
+pub span_there : (tk : List Token) (ts : List Sort) (s : Sort) (i : ℕ) (p : Span) (j : ℕ) → at ts i ≡ s → p ≡ span_of tk i → j ≡ i + 1 → IsSpan tk ts s i (got p j)
+span_there tk ts s i p j h e f = subst (λ x. IsSpan tk ts s i (got p x)) (sym f) (subst (λ x. IsSpan tk ts s i (got x (i + 1))) (sym e) (there h))
+
+pub arg_missed : (tk : List Token) (ts : List Sort) (form : Form) (i : ℕ) (f : ParseFault) → IsSpan tk ts Id i (miss f) → IsArg tk ts form i (miss f)
+arg_missed tk ts Bare i f h = bare (missed h)
+arg_missed tk ts Indexed i f h = no_name h
+
+pub onward_err : {A : Type 0} (ts : List Sort) (i : ℕ) (x : ParseFault) (r : Result (A × ℕ) ParseFault) → Passed r x → Onward ts i r
+onward_err ts i x r (y, e, g) = subst (λ z. Onward ts i z) (sym (e ∙ ap Err g)) tt
+
+pub back_err : {A : Type 0} (ts : List Sort) (i : ℕ) (x : ParseFault) (r : Result (A × ℕ) ParseFault) → Passed r x → Not_back ts i r
+back_err ts i x r (y, e, g) = subst (λ z. Not_back ts i z) (sym (e ∙ ap Err g)) tt

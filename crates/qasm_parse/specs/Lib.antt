@@ -1,3 +1,5 @@
 pub mod Grammar
 pub mod Sorts
 pub mod Phrases
+pub mod Numbers
+pub mod Formulas

@@ -3,6 +3,8 @@
 
 mod expr;
 mod fault;
+mod formulas;
+mod numbers;
 mod phrases;
 mod program;
 mod sort;

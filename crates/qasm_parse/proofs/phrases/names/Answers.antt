@@ -4,11 +4,8 @@ use Rattle.qasm_parse.specs.Grammar.{at}
 use Rattle.qasm_parse.specs.declared.program.Span.{Span}
 use Rattle.qasm_parse.specs.declared.sort.Sort.TheVariants.{Comma, Id}
 use Rattle.qasm_parse.specs.Phrases.{Listed, IsArg, IsSpan, miss, missing}
-use Rattle.qasm_parse.proofs.Passing.{one_more, the_last, listing_on, rest_none}
+use Rattle.qasm_parse.proofs.Passing.{one_more, the_last, listing_on}
 use Rattle.qasm_parse.proofs.phrases.names.Goals as goal
-
-pub loop-out-init : goal.loop-out-init
-loop-out-init c = let ts = c.args.sorts.now in record { within = c.requires.inside; ordered = omega arith; rest = rest_none ts (IsSpan c.args.tokens.now ts Id) c.args.at }
 
 pub returns-in_err-one-clause-reads : goal.returns-in_err-one-clause-reads
 returns-in_err-one-clause-reads c =
