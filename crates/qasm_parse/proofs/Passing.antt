@@ -10,7 +10,11 @@ use Rattle.qasm_parse.specs.declared.phrases.Form.{Form}
 use Rattle.qasm_parse.specs.declared.phrases.Form.TheVariants.{Bare, Indexed}
 use Rattle.qasm_parse.specs.declared.fault.ParseFault.{ParseFault}
 use Rattle.qasm_parse.specs.declared.fault.ParseFault.TheVariants.{Version, Syntax, NotUnitary, Include, Opaque, Deep, Memory}
-use Rattle.qasm_parse.specs.Grammar.{at}
+use Rattle.qasm_parse.specs.declared.sort.Mark.{Mark}
+use Rattle.qasm_parse.specs.declared.sort.Level.TheVariants.{Sums}
+use Rattle.qasm_parse.specs.declared.program.Formula.{Formula}
+use Rattle.qasm_parse.specs.Formulas.{IsFormula, no_formula}
+use Rattle.qasm_parse.specs.Grammar.{at, chain, Answers}
 use Rattle.qasm_parse.specs.Phrases.{Got, got, miss, put, Listed, final, next, missing, Told, Listing, Onward, Not_back, Stands, IsSpan, there, span_of, IsArg, bare, no_name, missed}
 
 module _ {A : Type 0} (ts : List Sort) (thing : ℕ → Got A → Type 0) where
@@ -105,3 +109,15 @@ onward_err ts i x r (y, e, g) = subst (λ z. Onward ts i z) (sym (e ∙ ap Err g
 
 pub back_err : {A : Type 0} (ts : List Sort) (i : ℕ) (x : ParseFault) (r : Result (A × ℕ) ParseFault) → Passed r x → Not_back ts i r
 back_err ts i x r (y, e, g) = subst (λ z. Not_back ts i z) (sym (e ∙ ap Err g)) tt
+
+formula_miss : (bytes : List ℕ) (tk : List Token) (ts : List Sort) (i : ℕ) (old new : List Mark) (x : ParseFault) → Answers ts (chain Sums) 128 i old new (Err x) → Told (Err x) (IsFormula bytes tk ts i)
+formula_miss bytes tk ts i old new Memory h = tt
+formula_miss bytes tk ts i old new (Version n) h = no_formula h
+formula_miss bytes tk ts i old new (Syntax n) h = no_formula h
+formula_miss bytes tk ts i old new (NotUnitary n) h = no_formula h
+formula_miss bytes tk ts i old new (Include n) h = no_formula h
+formula_miss bytes tk ts i old new (Opaque n) h = no_formula h
+formula_miss bytes tk ts i old new (Deep n) h = no_formula h
+
+pub formula_fault : (bytes : List ℕ) (tk : List Token) (ts : List Sort) (i : ℕ) (old new : List Mark) (x : ParseFault) (r : Result (Formula × ℕ) ParseFault) → Passed r x → Answers ts (chain Sums) 128 i old new (Err x) → Told r (IsFormula bytes tk ts i)
+formula_fault bytes tk ts i old new x r (y, e, g) h = subst (λ z. Told z (IsFormula bytes tk ts i)) (sym (e ∙ ap Err g)) (formula_miss bytes tk ts i old new x h)

@@ -1,5 +1,5 @@
 -- Expressions of a text.
-use Rattle.std.specs.Prelude.{◌≡◌, ℕ, zero, suc, ◌+◌, ◌-◌, List, [], ◌∷◌, ◌++◌, get_or}
+use Rattle.std.specs.Prelude.{◌≡◌, ℕ, zero, suc, ◌+◌, ◌-◌, ℤ, List, [], ◌∷◌, ◌++◌, get_or}
 use Rattle.qasm_lex.specs.declared.types.Token.{Token}
 use Rattle.qasm_lex.specs.declared.types.Kind.TheVariants.{Sign}
 use Rattle.qasm_angle.specs.declared.types.Op.{Op}
@@ -41,19 +41,19 @@ abbrev pub text_at : List ℕ → List Token → ℕ → List ℕ
 text_at bytes tk i = spelling bytes (get_or tk i (record { kind = Sign; from = 0; to = 0 }))
 
 -- the operation of a mark, in an expression that begins at token i
-abbrev pub OpIs : List ℕ → List Token → List Sort → ℕ → Mark → Op → Type 0
-OpIs bytes tk ts i (Number k) (NumberOp digits ten) = IsNumeral (text_at bytes tk k) digits ten
-OpIs bytes tk ts i (Id k) (IdOp n) = n ≡ id_count ts i (k - i)
-OpIs bytes tk ts i Pi PiOp = Unit {0}
-OpIs bytes tk ts i Neg NegOp = Unit {0}
-OpIs bytes tk ts i Add AddOp = Unit {0}
-OpIs bytes tk ts i Sub SubOp = Unit {0}
-OpIs bytes tk ts i Mul MulOp = Unit {0}
-OpIs bytes tk ts i Div DivOp = Unit {0}
-OpIs bytes tk ts i Pow PowOp = Unit {0}
-OpIs bytes tk ts i Func FuncOp = Unit {0}
-OpIs bytes tk ts i m op = ⊥
+pub data OpIs (bytes : List ℕ) (tk : List Token) (ts : List Sort) (i : ℕ) : Mark → Op → Type 0 where
+  number_is : {k digits : ℕ} {ten : ℤ} → IsNumeral (text_at bytes tk k) digits ten → OpIs bytes tk ts i (Number k) (NumberOp digits ten)
+  id_is : {k n : ℕ} → n ≡ id_count ts i (k - i) → OpIs bytes tk ts i (Id k) (IdOp n)
+  pi_is : OpIs bytes tk ts i Pi PiOp
+  neg_is : OpIs bytes tk ts i Neg NegOp
+  add_is : OpIs bytes tk ts i Add AddOp
+  sub_is : OpIs bytes tk ts i Sub SubOp
+  mul_is : OpIs bytes tk ts i Mul MulOp
+  div_is : OpIs bytes tk ts i Div DivOp
+  pow_is : OpIs bytes tk ts i Pow PowOp
+  func_is : OpIs bytes tk ts i Func FuncOp
 
+-- and those of marks, one by one
 pub data OpsAre (bytes : List ℕ) (tk : List Token) (ts : List Sort) (i : ℕ) : List Mark → List Op → Type 0 where
   no_op : OpsAre bytes tk ts i [] []
   one_op : {m : Mark} {op : Op} {ms : List Mark} {ops : List Op} → OpIs bytes tk ts i m op → OpsAre bytes tk ts i ms ops → OpsAre bytes tk ts i (m ∷ ms) (op ∷ ops)

@@ -1,5 +1,5 @@
 -- The number that a token spells.
-use Rattle.std.specs.Prelude.{◌≡◌, ◌≢◌, ℕ, ◌+◌, ◌-◌, ◌*◌, ◌^◌, ◌%◌, ◌<◌, ◌≤◌, ◌⊎◌, Bool, true, false, nat_eq, ℤ, pos, neg_ℤ, ◌+ℤ◌, ◌-ℤ◌, ◌<ℤ◌, List, [], ◌∷◌, length, filter, fold, min}
+use Rattle.std.specs.Prelude.{◌≡◌, ◌≢◌, ℕ, ◌+◌, ◌-◌, ◌*◌, ◌^◌, ◌%◌, ◌<◌, ◌≤◌, ◌⊎◌, Bool, true, false, nat_eq, ℤ, pos, neg_ℤ, ◌+ℤ◌, ◌-ℤ◌, ◌<ℤ◌, List, [], ◌∷◌, length, filter, fold, min, get_or, if◌then◌else◌}
 use Rattle.std.specs.List.{before_first, after_first}
 use Rattle.std.specs.Int.{int_min, int_max}
 use Rattle.qasm_lex.specs.Tokens.{is_digit_byte, is_exponent_byte}
@@ -18,8 +18,7 @@ places text = length (after_first (λ b. nat_eq b 46) (mantissa text))
 
 -- the power of ten behind e or E
 abbrev pub signed_by : List ℕ → ℤ
-signed_by (45 ∷ ds) = neg_ℤ (pos (decimal ds))
-signed_by ds = pos (decimal ds)
+signed_by ds = if nat_eq (get_or ds 0 0) 45 then neg_ℤ (pos (decimal ds)) else pos (decimal ds)
 
 abbrev pub exponent : List ℕ → ℤ
 exponent text = signed_by (after_first is_exponent_byte text)
