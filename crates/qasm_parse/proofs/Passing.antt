@@ -13,9 +13,12 @@ use Rattle.qasm_parse.specs.declared.fault.ParseFault.TheVariants.{Version, Synt
 use Rattle.qasm_parse.specs.declared.sort.Mark.{Mark}
 use Rattle.qasm_parse.specs.declared.sort.Level.TheVariants.{Sums}
 use Rattle.qasm_parse.specs.declared.program.Formula.{Formula}
+use Rattle.qasm_parse.specs.declared.program.Arg.{Arg}
+use Rattle.qasm_parse.specs.declared.program.Call.{Call}
+use Rattle.qasm_parse.specs.declared.program.Called.{Called}
 use Rattle.qasm_parse.specs.Formulas.{IsFormula, no_formula}
 use Rattle.qasm_parse.specs.Grammar.{at, chain, Answers}
-use Rattle.qasm_parse.specs.Phrases.{Got, got, miss, put, Listed, final, next, missing, Told, Listing, Onward, Not_back, Stands, IsSpan, there, span_of, IsArg, bare, no_name, missed}
+use Rattle.qasm_parse.specs.Phrases.{Got, got, miss, put, Listed, final, next, missing, Told, Listing, Onward, Not_back, Stands, IsSpan, there, After, after, span_of, IsArg, bare, no_name, missed}
 
 module _ {A : Type 0} (ts : List Sort) (thing : ℕ → Got A → Type 0) where
   put_put : (xs ys : List A) (r : Got (List A)) → put xs (put ys r) ≡ put (xs ++ ys) r
@@ -121,3 +124,15 @@ formula_miss bytes tk ts i old new (Deep n) h = no_formula h
 
 pub formula_fault : (bytes : List ℕ) (tk : List Token) (ts : List Sort) (i : ℕ) (old new : List Mark) (x : ParseFault) (r : Result (Formula × ℕ) ParseFault) → Passed r x → Answers ts (chain Sums) 128 i old new (Err x) → Told r (IsFormula bytes tk ts i)
 formula_fault bytes tk ts i old new x r (y, e, g) h = subst (λ z. Told z (IsFormula bytes tk ts i)) (sym (e ∙ ap Err g)) (formula_miss bytes tk ts i old new x h)
+
+-- one application by its parts
+abbrev pub call_at : Called → Span → List Formula → List Arg → ℕ → Got Call
+call_at g p xs us j = got (record { gate = g; at = p; params = xs; args = us }) j
+
+pub call_same : (g : Called) (p q : Span) (xs ys : List Formula) (us vs : List Arg) (j k : ℕ) → p ≡ q → xs ≡ ys → us ≡ vs → j ≡ k → call_at g p xs us j ≡ call_at g q ys vs k
+call_same g p q xs ys us vs j k e f h i =
+    ap (λ (x : Span). call_at g x xs us j) e ∙ ap (λ (x : List Formula). call_at g q x us j) f
+    ∙ ap (λ (x : List Arg). call_at g q ys x j) h ∙ ap (λ (x : ℕ). call_at g q ys vs x) i
+
+pub after_at : {B : Type 0} {ts : List Sort} {s : Sort} {rest : ℕ → Got B → Type 0} {i j : ℕ} {r : Got B} → at ts i ≡ s → j ≡ i + 1 → rest j r → After ts s rest i r
+after_at {rest = rest} {r = r} h e k = after h (subst (λ x. rest x r) e k)

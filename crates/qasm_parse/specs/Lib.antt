@@ -3,3 +3,4 @@ pub mod Sorts
 pub mod Phrases
 pub mod Numbers
 pub mod Formulas
+pub mod Statements

@@ -8,7 +8,9 @@ mod numbers;
 mod phrases;
 mod program;
 mod sort;
+mod statements;
 mod terminals;
+mod whence;
 
 pub use fault::ParseFault;
 pub use program::{Arg, Args, Body, Call, Called, Formula, Formulas, Inner, Program, Span, Spans, Statement};
