@@ -1,0 +1,18 @@
+//! Programs in the unitary part of OpenQASM 2.0, read from tokens.
+#![tactic(auto)]
+
+mod expr;
+mod fault;
+mod formulas;
+mod numbers;
+mod phrases;
+mod program;
+mod sort;
+mod statements;
+mod terminals;
+mod whence;
+
+pub use fault::ParseFault;
+pub use program::{
+    Arg, Args, Body, Call, Called, Formula, Formulas, Inner, Program, Span, Spans, Statement,
+};
