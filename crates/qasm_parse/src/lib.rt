@@ -3,12 +3,9 @@
 
 mod expr;
 mod fault;
-mod formulas;
-mod numbers;
 mod phrases;
 mod program;
 mod sort;
-mod statements;
 mod terminals;
 mod whence;
 
