@@ -2,4 +2,6 @@ pub mod Lifts
 pub mod Counting
 pub mod Substitutes
 pub mod Closings
+pub mod Uniqueness
+pub mod Making
 pub mod Texting
