@@ -3,5 +3,6 @@ pub mod Counting
 pub mod Substitutes
 pub mod Closings
 pub mod Uniqueness
-pub mod Making
+pub mod Withins
 pub mod Texting
+pub mod Summing

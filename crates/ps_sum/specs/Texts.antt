@@ -9,7 +9,7 @@ use Rattle.ps_sum.specs.Counts.{twos}
 unfoldable pub joined : {X : Type 0} → List ℕ → (X → List ℕ) → List X → List ℕ
 joined mark text [] = []
 joined mark text (x ∷ []) = text x
-joined mark text (x ∷ y ∷ xs) = text x ++ mark ++ joined mark text (y ∷ xs)
+joined mark text (x ∷ y ∷ xs) = text x ++ (mark ++ joined mark text (y ∷ xs))
 
 -- of n inputs: `x` with the number of an input, or `y` with that of a path variable, counted from 0
 unfoldable pub variable_text : ℕ → ℕ → List ℕ
@@ -21,7 +21,7 @@ mono_text n m = joined (codes ".") (variable_text n) m
 
 -- units of 2^-32 as a fraction in lowest terms
 unfoldable pub fraction_text : ℕ → List ℕ
-fraction_text units = decimal (units / 2 ^ twos units 32) ++ codes "/" ++ decimal (2 ^ (32 - twos units 32))
+fraction_text units = decimal (units / 2 ^ twos units 32) ++ (codes "/" ++ decimal (2 ^ (32 - twos units 32)))
 
 -- `*` and the monomial, and nothing for the one without variables
 unfoldable pub factor_text : ℕ → List ℕ → List ℕ

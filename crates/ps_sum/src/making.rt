@@ -1,8 +1,9 @@
 ghost use Rattle.std.specs.Prelude.{◌≡◌, ℕ, ◌≤◌, ◌↔◌, IsTrue, IsSome, IfSome, false, nat_lt};
 ghost use Rattle.ps_mono.specs.Sets.{stands};
-ghost use Rattle.ps_bool.specs.Polys.{occurs};
-ghost use Rattle.ps_phase.specs.Phases.{phase_occurs};
+ghost use Rattle.ps_bool.specs.Polys.{occurs, IsPoly};
+ghost use Rattle.ps_phase.specs.Phases.{phase_occurs, IsPhasePoly};
 ghost use Rattle.ps_sum.specs.Bounds.{FitsSum};
+ghost use Rattle.ps_sum.specs.Forms.{AllPolys};
 ghost use Rattle.ps_sum.specs.Outs.{outs_occur};
 
 use super::outputs::Outputs;
@@ -26,7 +27,8 @@ pub fn first_variables(count: u32) -> Bits
 
 // Each variable of the polynomial is one of these.
 fn phase_within(poly: &PhasePoly, names: &Bits) -> bool
-    ensures { IsTrue result ↔ ((v : ℕ) → stands v names.now ≡ false → phase_occurs v poly.now ≡ false) }
+    ensures form { IsPhasePoly poly.now }
+    ensures exactly { IsTrue result ↔ ((v : ℕ) → stands v names.now ≡ false → phase_occurs v poly.now ≡ false) }
 {
     for term in poly.terms() {
         if !term.mono.holds(names) {
@@ -38,7 +40,8 @@ fn phase_within(poly: &PhasePoly, names: &Bits) -> bool
 
 // The same of a Boolean polynomial.
 fn bool_within(poly: &BoolPoly, names: &Bits) -> bool
-    ensures { IsTrue result ↔ ((v : ℕ) → stands v names.now ≡ false → occurs v poly.now ≡ false) }
+    ensures form { IsPoly poly.now }
+    ensures exactly { IsTrue result ↔ ((v : ℕ) → stands v names.now ≡ false → occurs v poly.now ≡ false) }
 {
     for mono in poly.monos() {
         if !mono.holds(names) {
@@ -50,7 +53,8 @@ fn bool_within(poly: &BoolPoly, names: &Bits) -> bool
 
 // The same of each output.
 fn outs_within(outs: &Outputs, names: &Bits) -> bool
-    ensures { IsTrue result ↔ ((v : ℕ) → stands v names.now ≡ false → outs_occur v outs.now ≡ false) }
+    ensures form { IsTrue result → AllPolys outs.now }
+    ensures exactly { IsTrue result ↔ ((v : ℕ) → stands v names.now ≡ false → outs_occur v outs.now ≡ false) }
 {
     for poly in outs.polys() {
         if !bool_within(poly, names) {

@@ -1,7 +1,7 @@
-use Rattle.std.proofs.Common.{◌≡◌, ℕ, false, take}
-use Rattle.ps_mono.specs.Sets.{stands}
-use Rattle.ps_sum.specs.Outs.{outs_occur}
+use Rattle.std.proofs.Common.{take}
+use Rattle.ps_sum.specs.Forms.{AllPolys}
+use Rattle.ps_sum.proofs.Withins.{OutsWithin}
 use Rattle.ps_sum.proofs.making.outs_within.Given as goal
 
 abbrev pub invariant-loop-poly : goal.invariant-loop-poly
-invariant-loop-poly l = (v : ℕ) → stands v l.names ≡ false → outs_occur v (take l.poly-index l.poly-items) ≡ false
+invariant-loop-poly l = record { within : OutsWithin l.names (take l.poly-index l.poly-items); form : AllPolys (take l.poly-index l.poly-items) }
