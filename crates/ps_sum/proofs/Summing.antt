@@ -17,7 +17,7 @@ text_is S t0 t1 t2 t3 ts fs e0 et ef e1 e2 e3 =
     let k = signed_decimal S.k in
     let m = decimal S.m in
     let a : t0 ≡ codes "k=" ++ k ++ codes " m=" ++ m ++ codes " P=" =
-        e0 ∙ sym (append_assoc (codes "k=") k (codes " m=" ++ (m ++ codes " P="))) ∙ sym (append_assoc (codes "k=" ++ k) (codes " m=") (m ++ codes " P=")) ∙ sym (append_assoc (codes "k=" ++ k ++ codes " m=") m (codes " P=")) in
+    e0 ∙ sym (append_assoc (codes "k=") k (codes " m=" ++ (m ++ codes " P="))) ∙ sym (append_assoc (codes "k=" ++ k) (codes " m=") (m ++ codes " P=")) ∙ sym (append_assoc (codes "k=" ++ k ++ codes " m=") m (codes " P=")) in
     e3 ∙ ap₂ (λ (x : List ℕ) (y : List (List (List ℕ))). x ++ outs_text S.n y) (e2 ∙ ap (λ (r : List ℕ). r ++ codes " f=") (e1 ∙ ap₂ (λ (x : List ℕ) (y : List Term). x ++ phase_text S.n y) a et)) ef
 
 fits_scale : (k : ℤ) → (negsuc 1999999999 ≤ℤ k) × (k ≤ℤ pos 2000000000) → SFits w32 k

@@ -8,4 +8,4 @@ pub returns : goal.returns
 returns c =
     let p = c.power-power.result in
     on_ok_weaker c.write.result (fraction_is c.args.phase p (c.units.result / 2 ^ p) _ (string_bytes c.args.text.now) (string_bytes c.write.new.self)
-        (record { at_most = c.power-power.ensures.at_most; divides = c.power-power.ensures.divides; greatest = c.power-power.ensures.greatest }) (ap (λ u. u / 2 ^ p) c.units.ensures) (below_is p)) c.write.ensures.bytes
+    (record { at_most = c.power-power.ensures.at_most; divides = c.power-power.ensures.divides; greatest = c.power-power.ensures.greatest }) (ap (λ u. u / 2 ^ p) c.units.ensures) (below_is p)) c.write.ensures.bytes
