@@ -1,5 +1,5 @@
 -- Which parts make a path sum.
-use Rattle.std.proofs.Common.{◌≡◌, ◌≢◌, ℕ, zero, suc, ◌+◌, refl, ap, ap₂, sym, ◌∙◌, arith, ◌<◌, ◌≤◌, Bool, true, false, cond, nat_eq, nat_lt, not, IsTrue, List, [], ◌∷◌, ◌++◌, length, take, get_or}
+use Rattle.std.proofs.Common.{◌≡◌, ℕ, ◌+◌, refl, ap, sym, ◌∙◌, arith, ◌<◌, ◌≤◌, Bool, true, false, cond, nat_eq, nat_lt, IsTrue, List, [], ◌∷◌, ◌++◌, length, take, get_or}
 use Rattle.std.proofs.lemmas.Bool.Decides.{nat_tests}
 use Rattle.std.proofs.lemmas.List.{take_more, take_all}
 use Rattle.ps_mono.specs.Sets.{holds, stands}
@@ -7,7 +7,6 @@ use Rattle.ps_mono.proofs.Laws.{holds_at, fails}
 use Rattle.ps_bool.specs.Polys.{occurs, IsPoly}
 use Rattle.ps_phase.specs.declared.terms.Term.{Term}
 use Rattle.ps_phase.specs.Phases.{phase_occurs}
-use Rattle.ps_phase.proofs.Adding.{neither, no_or}
 use Rattle.ps_phase.proofs.Values.{free_push}
 use Rattle.ps_sum.specs.Forms.{AllPolys}
 use Rattle.ps_sum.specs.Outs.{outs_occur}

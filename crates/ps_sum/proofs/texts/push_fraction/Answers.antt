@@ -1,4 +1,4 @@
-use Rattle.std.proofs.Common.{◌^◌, ◌-◌, ◌*◌, ◌%◌, ◌/◌, ap}
+use Rattle.std.proofs.Common.{◌^◌, ◌/◌, ap}
 use Rattle.std.proofs.lemmas.Result.{on_ok_weaker}
 use Rattle.std.specs.String.{string_bytes}
 use Rattle.ps_sum.proofs.Texting.{fraction_is, below_is}

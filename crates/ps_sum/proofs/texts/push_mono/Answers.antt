@@ -1,4 +1,4 @@
-use Rattle.std.proofs.Common.{codes, length, arith}
+use Rattle.std.proofs.Common.{codes, arith}
 use Rattle.std.specs.String.{string_bytes}
 use Rattle.ps_sum.specs.Texts.{variable_text}
 use Rattle.ps_sum.proofs.Texting.{joined_start, joined_next, joined_end, at_place}

@@ -1,5 +1,4 @@
-use Rattle.std.proofs.Common.{codes, length, arith}
-use Rattle.std.proofs.lemmas.Bool.Decides.{nat_tests}
+use Rattle.std.proofs.Common.{codes}
 use Rattle.std.proofs.lemmas.Result.{on_ok_weaker}
 use Rattle.std.specs.String.{string_bytes}
 use Rattle.ps_sum.specs.Texts.{term_text}

@@ -1,4 +1,4 @@
-use Rattle.std.proofs.Common.{ap, ◌∙◌, vec_items}
+use Rattle.std.proofs.Common.{◌∙◌}
 use Rattle.std.specs.String.{string_bytes}
 use Rattle.ps_sum.proofs.Summing.{text_is, bytes_are, shown_head}
 use Rattle.ps_sum.proofs.sums.PathSum.text.Goals as goal
