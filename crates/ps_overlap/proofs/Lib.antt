@@ -1,0 +1,4 @@
+pub mod Overlapped
+pub mod Dividing
+pub mod Quotients
+pub mod LeastPoints
