@@ -24,6 +24,7 @@ use Rattle.ps_sum.specs.Outs.{values}
 use Rattle.ps_sum.specs.Sums.{path_values}
 use Rattle.ps_sum.proofs.Uniqueness.{taken_length, bit_taken}
 use Rattle.ps_overlap.specs.Overlapping.{EachTerm, SomeTerm, divided, path_terms, Vanishes, point, IsLeastPoint, IsLeastMono, IsFirstPoint}
+use Rattle.ps_overlap.specs.Terms.{LeastQuotient}
 use Rattle.ps_overlap.proofs.Dividing.{divided_less}
 use Rattle.ps_overlap.proofs.Quotients.{quotients, AllHave, all_have, quotients_poly, quotients_below, phase_was, rest_free, value_free}
 
@@ -78,10 +79,6 @@ later_quotients v m [] b = tt
 later_quotients v m (t ∷ ts) b = (not_less m (divided v t.mono) b.0, later_quotients v m ts b.1)
 
 -- the first of the terms with v, divided by it, is the least of these
-pub record LeastQuotient (v : ℕ) (ts : List Term) (bits : List ℕ) : Type 0 where
-  pub one_of : SomeTerm (λ t. divided v t.mono ≡ bits) ts
-  pub least : EachTerm (λ t. mono_cmp (divided v t.mono) bits ≢ Less) ts
-
 pub first_quotient_least : (v : ℕ) (t : Term) (ts : List Term) → IsPhasePoly (t ∷ ts) → AllHave v (t ∷ ts) → LeastQuotient v (t ∷ ts) (divided v t.mono)
 first_quotient_least v t ts p a = record { one_of = inl refl; least = (never_self (divided v t.mono), later_quotients v (divided v t.mono) ts (quotients_poly v (t ∷ ts) p a).in_order.0) }
 

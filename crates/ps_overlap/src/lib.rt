@@ -1,14 +1,16 @@
 //! The overlap of two path sums, and the inputs at which a closed sum shows that it is not 1.
 #![tactic(auto)]
 
-ghost use Rattle.std.specs.Prelude.{◌≡◌};
-ghost use Rattle.ps_overlap.specs.Overlapping.{IsOverlapOf, OverlapPasses, Vanishes, LeastVanishing, NoneVanishes, point, IsLeastPoint, IsFirstPoint};
+mod looking;
+mod moving;
+pub mod overlaps;
+mod pairing;
+pub mod points;
+pub mod searching;
 
-use ps_sum::PathSum;
+pub use overlaps::overlap;
+pub use points::{first_point, least_point};
+pub use searching::vanishing;
 
-/// Nothing yet.
-pub fn nothing(sum: &PathSum)
-    ensures { sum.now ≡ sum.now }
-{
-    let _n = sum.n;
-}
+#[cfg(test)]
+mod tests;
