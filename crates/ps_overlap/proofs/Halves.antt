@@ -275,3 +275,16 @@ vanishes_not S ts y v half other et ev l c q = by other refl c
 
 pub none_below : (S : PathSum) (i : ℕ) → S.m ≤ i → ((z : ℕ) → z < i → ¬ (Vanishes S z)) → NoneVanishes S
 none_below S i h f y q = let l = q.inside in f y (omega arith) q
+
+pub until_next : (S : PathSum) (y : ℕ) → ((z : ℕ) → z < y → ¬ (Vanishes S z)) → ¬ (Vanishes S y) → (z : ℕ) → z < y + 1 → ¬ (Vanishes S z)
+until_next S y f n z h = by (cases_lt z y)
+  where
+    by : ((z < y) ⊎ (y ≤ z)) → ¬ (Vanishes S z)
+    by (inl l) = f z l
+    by (inr l) = let e : y ≡ z = omega arith in subst (λ (x : ℕ). ¬ (Vanishes S x)) e n
+
+pub no_answer : (S : PathSum) (i : ℕ) → S.m ≤ i → ((z : ℕ) → z < i → ¬ (Vanishes S z)) → (false ≡ false → NoneVanishes S) × (NoneVanishes S → false ≡ false)
+no_answer S i h f = (λ e. none_below S i h f, λ n. refl)
+
+pub an_answer : (S : PathSum) (y : ℕ) → Vanishes S y → (true ≡ false → NoneVanishes S) × (NoneVanishes S → true ≡ false)
+an_answer S y q = (λ e. absurd (clash refl e), λ n. absurd (n y q))

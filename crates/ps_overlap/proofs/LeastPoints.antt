@@ -1,6 +1,7 @@
 -- The points at which a closed sum shows that it is not 1.
-use Rattle.std.proofs.Common.{◌≡◌, ◌≢◌, ℕ, zero, suc, ◌+◌, ◌-◌, ◌%◌, refl, ap, ap₂, sym, ◌∙◌, subst, arith, ◌<◌, ◌≤◌, Bool, true, false, ◌||◌, nat_lt, List, [], ◌∷◌, ◌++◌, length, Ordering, Less, Equal, Greater, ◌⊎◌, inl, inr}
+use Rattle.std.proofs.Common.{SFits, to_z, of_z, w32, ◌≤ℤ◌, ◌≡◌, ◌≢◌, ℕ, zero, suc, ◌+◌, ◌-◌, ◌%◌, refl, ap, ap₂, sym, ◌∙◌, subst, arith, ◌<◌, ◌≤◌, Bool, true, false, ◌||◌, nat_lt, List, [], ◌∷◌, ◌++◌, length, get_or, Ordering, Less, Equal, Greater, ◌⊎◌, inl, inr}
 use Rattle.std.proofs.Math.IntN.{ℤ, pos, negsuc}
+use Rattle.std.proofs.lemmas.Int.{ints, to_z-of_z}
 use Rattle.std.proofs.Math.ListN.{get_or-append}
 use Rattle.std.proofs.lemmas.Bool.Decides.{nat_tests}
 use Rattle.ps_ring.specs.Truths.{Truths, bit}
@@ -157,3 +158,30 @@ unfolding values
 first_point_not_one S bits o m p h =
     let r = one_is_plain (path_values S) (point S.n bits) m (ap (λ (fs : List (List (List ℕ))). values fs (bit (point S.n bits ++ []))) o) h in
     turn_there S.n S.phase bits S.formed.0 (λ v l. S.phase_below v (let e : S.m ≡ 0 = m in omega arith)) (p.unscaled r.0) r.1
+
+-- what the code of `first_point` answers
+pub unscaled_point : (S : PathSum) (ts : List Term) (t : Term) (bits : List ℕ) → S.k ≡ pos 0 → ts ≡ S.phase → IsPhasePoly S.phase → (S.phase ≡ [] → ⊥) → t ≡ get_or ts 0 t → bits ≡ t.mono → IsFirstPoint S bits
+unscaled_point S ts t bits k et p n e b = record { scaled = λ d. absurd (d k); unscaled = λ z. least S.phase p n (e ∙ ap (λ (x : List Term). get_or x 0 t) et) }
+  where
+    least : (ps : List Term) → IsPhasePoly ps → (ps ≡ [] → ⊥) → t ≡ get_or ps 0 t → IsLeastMono ps bits
+    least [] p n e = absurd (n refl)
+    least (u ∷ ps) p n e = subst (IsLeastMono (u ∷ ps)) (ap (λ (x : Term). x.mono) (sym e) ∙ sym b) (first_mono_least u ps p)
+
+pub scaled_point : (S : PathSum) (bits : List ℕ) → S.k ≢ pos 0 → bits ≡ [] → IsFirstPoint S bits
+scaled_point S bits k b = record { scaled = λ d. b; unscaled = λ z. absurd (k z) }
+
+-- the test of the scale
+scale_fits : (k : ℤ) → (negsuc 1999999999 ≤ℤ k) × (k ≤ℤ pos 2000000000) → SFits w32 k
+scale_fits k b = omega (arith, ints)
+
+pub scale_zero : (S : PathSum) → of_z w32 S.k ≡ 0 → S.k ≡ pos 0
+scale_zero S e = sym (to_z-of_z w32 S.k (scale_fits S.k S.scaled)) ∙ ap (to_z w32) e
+
+pub scale_other : (S : PathSum) → (of_z w32 S.k ≡ 0 → ⊥) → S.k ≢ pos 0
+scale_other S n e = n (ap (of_z w32) e)
+
+-- what the code of `least_point` answers
+pub quotient_point : (S : PathSum) (y : ℕ) (ts : List Term) (left bits : List ℕ) → ts ≡ S.phase → bits ≡ left → LeastQuotient (S.n + y) (terms_with (S.n + y) ts) left → IsLeastPoint S y bits
+quotient_point S y ts left bits et eb q =
+    let r = subst (λ (x : List Term). LeastQuotient (S.n + y) (terms_with (S.n + y) x) bits) et (subst (LeastQuotient (S.n + y) (terms_with (S.n + y) ts)) (sym eb) q) in
+    record { one_of = r.one_of; least = r.least }

@@ -7,3 +7,4 @@ pub mod Paired
 pub mod PhaseOf
 pub mod Halves
 pub mod FirstTerms
+pub mod Made

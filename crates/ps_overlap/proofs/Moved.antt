@@ -1,5 +1,5 @@
 -- The second sum's variables under their names in the overlap, and opposite phases.
-use Rattle.std.proofs.Common.{◌≡◌, ◌≢◌, ℕ, zero, suc, ◌+◌, ◌-◌, ◌%◌, refl, ap, ap₂, sym, ◌∙◌, arith, ◌<◌, ◌≤◌, Bool, true, false, ◌&&◌, ◌||◌, cond, nat_eq, nat_lt, List, [], ◌∷◌, ◌++◌, length, take, get_or, ◌⊎◌, inl, inr}
+use Rattle.std.proofs.Common.{◌≡◌, ◌≢◌, ℕ, zero, suc, ◌+◌, ◌-◌, ◌%◌, refl, ap, ap₂, sym, ◌∙◌, subst, arith, ◌<◌, ◌≤◌, Bool, true, false, ◌&&◌, ◌||◌, cond, nat_eq, nat_lt, List, [], ◌∷◌, ◌++◌, length, take, get_or, ◌⊎◌, inl, inr}
 use Rattle.std.proofs.lemmas.Bool.Decides.{nat_tests}
 use Rattle.std.proofs.lemmas.Bool.{cases_lt}
 use Rattle.std.proofs.lemmas.List.{take_more, take_all}
@@ -8,7 +8,7 @@ use Rattle.ps_mono.specs.Lists.{nat_eq_same, nat_eq_true}
 use Rattle.ps_mono.specs.Truth.{times}
 use Rattle.ps_mono.proofs.Laws.{holds_union}
 use Rattle.ps_phase.specs.declared.terms.Term.{Term}
-use Rattle.ps_phase.specs.Phases.{phase_value, phase_occurs}
+use Rattle.ps_phase.specs.Phases.{phase_value, phase_occurs, IsPhasePoly}
 use Rattle.ps_phase.proofs.Adding.{no_or}
 use Rattle.ps_phase.proofs.Values.{phase_append, one_value, phase_more, free_push}
 use Rattle.ps_ring.specs.Readings.{Assignment, moved_name}
@@ -129,6 +129,11 @@ pub terms_value : (n by : ℕ) (ts start out : List Term) (i : ℕ) → length t
 terms_value n by ts start out i h s a = s.value a ∙ ap (λ (r : List Term). phase_value start a + phase_value r (λ v. a (moved_name n by v))) (take_all i ts h)
 
 -- ---- opposite phases
+pub term_small : (ts : List Term) (i : ℕ) (t : Term) → IsPhasePoly ts → i < length ts → t ≡ get_or ts i t → t.phase < 4294967296
+term_small [] i t p h e = absurd (omega arith)
+term_small (u ∷ ts) zero t p h e = subst (λ (x : Term). x.phase < 4294967296) (sym e) p.0.small
+term_small (u ∷ ts) (suc i) t p h e = term_small ts i t p.2 (omega arith) e
+
 pub record Negated (ts : List Term) (i : ℕ) (start out : List Term) : Type 0 where
   pub value : (a : Assignment) → (phase_value out a + phase_value (take i ts) a) % 4294967296 ≡ phase_value start a % 4294967296
   pub free : (w : ℕ) → phase_occurs w ts ≡ false → phase_occurs w start ≡ false → phase_occurs w out ≡ false

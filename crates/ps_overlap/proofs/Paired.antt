@@ -75,8 +75,12 @@ OutsNotMoved n by fs u = (v : ℕ) → moved_name n by v ≡ u → outs_occur v 
 pub small_mono : (b : ℕ) (f : List (List ℕ)) (i : ℕ) (m : List ℕ) → i < length f → m ≡ get_or f i m → ((v : ℕ) → 512 ≤ v + b → occurs v f ≡ false) → (v : ℕ) → 512 ≤ v + b → stands v m ≡ false
 small_mono b f i m h e g v l = mono_free v f i m h e (g v l)
 
-pub small_output : (b : ℕ) (fs : List (List (List ℕ))) (i : ℕ) (f : List (List ℕ)) → i < length fs → f ≡ get_or fs i f → ((v : ℕ) → 512 ≤ v + b → outs_occur v fs ≡ false) → (v : ℕ) → 512 ≤ v + b → occurs v f ≡ false
-small_output b fs i f h e g v l = outs_get v fs i f h e (g v l)
+pub small_monos : (b : ℕ) (fs : List (List (List ℕ))) (i : ℕ) (f ms : List (List ℕ)) → i < length fs → f ≡ get_or fs i f → ms ≡ f → ((v : ℕ) → 512 ≤ v + b → outs_occur v fs ≡ false) → (v : ℕ) → 512 ≤ v + b → occurs v ms ≡ false
+small_monos b fs i f ms h e em g v l = ap (occurs v) em ∙ outs_get v fs i f h e (g v l)
+
+-- the output at a place, by its monomials
+pub output_at : (fs : List (List (List ℕ))) (i : ℕ) (f ms : List (List ℕ)) → f ≡ get_or fs i f → ms ≡ f → ms ≡ get_or fs i ms
+output_at fs i f ms e em = em ∙ e ∙ ap (λ (x : List (List ℕ)). get_or fs i x) (sym em)
 
 -- ---- all outputs
 pub record Pairing (lo n by : ℕ) (fs gs : List (List (List ℕ))) (i : ℕ) (start out : List Term) : Type 0 where

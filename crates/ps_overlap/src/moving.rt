@@ -1,6 +1,6 @@
 ghost use Rattle.std.specs.Prelude.{◌≡◌, ℕ, ◌<◌, ◌≤◌, ◌+◌, ◌%◌, Bool, false, OnOk};
 ghost use Rattle.ps_mono.specs.Sets.{holds, stands};
-ghost use Rattle.ps_phase.specs.Phases.{phase_value, phase_occurs};
+ghost use Rattle.ps_phase.specs.Phases.{phase_value, phase_occurs, IsPhasePoly};
 ghost use Rattle.ps_ring.specs.Readings.{moved_name};
 
 use ps_mono::Mono;
@@ -46,6 +46,7 @@ pub(crate) fn push_moved(
 
 /// The terms with the opposite phases, at the end.
 pub(crate) fn push_negated(out: &mut Vec<Term>, terms: &[Term]) -> Result<(), AllocError>
+    requires { IsPhasePoly terms.now }
     ensures value { OnOk result ((a : ℕ → Bool) → (phase_value out.new.items a + phase_value terms.now a) % 4294967296 ≡ phase_value out.old.items a % 4294967296) }
     ensures variables { OnOk result ((w : ℕ) → phase_occurs w terms.now ≡ false → phase_occurs w out.old.items ≡ false → phase_occurs w out.new.items ≡ false) }
 {

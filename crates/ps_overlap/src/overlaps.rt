@@ -55,10 +55,18 @@ pub fn overlap(alloc: Global, first: &PathSum, second: &PathSum) -> Result<PathS
     Ok(PathSum {
         n: first.n,
         m: first.m + second.m + first.n,
-        k: first.k + second.k + (first.n + first.n) as i32,
+        k: overlap_scale(first, second),
         phase,
         outs: Outputs::of(Vec::new(alloc)),
     })
+}
+
+// The scale of the overlap.
+fn overlap_scale(first: &PathSum, second: &PathSum) -> i32
+    requires { (negsuc 1999999999 ≤ℤ (first.now.k +ℤ second.now.k +ℤ pos (first.now.n + first.now.n))) × ((first.now.k +ℤ second.now.k +ℤ pos (first.now.n + first.now.n)) ≤ℤ pos 2000000000) }
+    ensures { result ≡ first.now.k +ℤ second.now.k +ℤ pos (first.now.n + first.now.n) }
+{
+    first.k + second.k + (first.n + first.n) as i32
 }
 
 // The phase of the overlap.

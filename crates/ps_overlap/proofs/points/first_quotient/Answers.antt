@@ -11,6 +11,3 @@ returns-then-contains c = quotient_found c.args.v c.args.terms.now c.loop-term.t
 
 pub loop-term-preserved : goal.loop-term-preserved
 loop-term-preserved c = free_more c.args.v c.args.terms.now c.loop-term.term-index c.term-item.result c.loop-term-test.true c.term-item.is (sym c.contains.ensures ∙ c.if-contains.false) c.loop-term.invariant
-
-pub prove-unreachable-requires : goal.prove-unreachable-requires
-prove-unreachable-requires c = quotient_missing c.args.v c.args.terms.now c.loop-term.term-index c.loop-term-test.false c.loop-term.invariant c.requires.some
