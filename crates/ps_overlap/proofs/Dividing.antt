@@ -1,5 +1,5 @@
 -- Monomials divided by a variable that they have, and that their order stays.
-use Rattle.std.proofs.Common.{◌≡◌, ◌≢◌, ℕ, zero, suc, ◌+◌, refl, ap, ap₂, sym, ◌∙◌, subst, arith, ◌<◌, ◌≤◌, Bool, true, false, not, ◌&&◌, ◌||◌, cond, nat_eq, List, [], ◌∷◌, length, filter, nat_cmp, Ordering, Less, Equal, Greater, ◌⊎◌, inl, inr}
+use Rattle.std.proofs.Common.{◌≡◌, ◌≢◌, ℕ, ◌+◌, refl, ap, ap₂, sym, ◌∙◌, subst, arith, ◌<◌, Bool, true, false, not, ◌&&◌, ◌||◌, cond, nat_eq, List, [], ◌∷◌, length, filter, nat_cmp, Ordering, Less, Equal, Greater, ◌⊎◌, inl, inr}
 use Rattle.std.specs.Cmp.Lexicographic.{slice_cmp}
 use Rattle.std.specs.Ordering.{ordering_then}
 use Rattle.std.proofs.lemmas.Bool.Decides.{nat_tests}
@@ -204,4 +204,4 @@ divided_less v m k s t p q e = by (then_less (nat_cmp (length m) (length k)) (sl
         let g = length_divided v k (set_climbing k t) q in
         let l = equal_cmp (length m) (length k) o.0 in
         less_second (nat_cmp (length (divided v m)) (length (divided v k))) (slice_cmp nat_cmp (divided v m) (divided v k)) (cmp_equal (length (divided v m)) (length (divided v k)) (omega arith))
-            (slice_divided v m k (set_climbing m s) (set_climbing k t) l p q o.1)
+        (slice_divided v m k (set_climbing m s) (set_climbing k t) l p q o.1)

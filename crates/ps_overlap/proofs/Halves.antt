@@ -1,5 +1,5 @@
 -- One pass over the terms tells which path variables vanish.
-use Rattle.std.proofs.Common.{◌≡◌, ◌≢◌, ℕ, zero, suc, ◌+◌, ◌-◌, refl, ap, ap₂, sym, ◌∙◌, subst, arith, ◌<◌, ◌≤◌, Bool, true, false, not, ◌&&◌, ◌||◌, cond, nat_eq, nat_lt, IsTrue, List, [], ◌∷◌, ◌++◌, length, take, drop, get_or, ◌⊎◌, inl, inr}
+use Rattle.std.proofs.Common.{◌≡◌, ◌≢◌, ℕ, zero, suc, ◌+◌, ◌-◌, refl, ap, ap₂, sym, ◌∙◌, subst, arith, ◌<◌, ◌≤◌, Bool, true, false, not, ◌&&◌, ◌||◌, cond, nat_eq, nat_lt, IsTrue, List, [], ◌∷◌, ◌++◌, length, take, get_or, ◌⊎◌, inl, inr}
 use Rattle.std.proofs.lemmas.Bool.Decides.{nat_tests}
 use Rattle.std.proofs.lemmas.Bool.{cases_eq, cases_lt}
 use Rattle.std.proofs.lemmas.List.{take_more, take_all}
@@ -12,9 +12,8 @@ use Rattle.ps_phase.specs.declared.terms.Term.{Term}
 use Rattle.ps_phase.specs.Phases.{phase_occurs}
 use Rattle.ps_phase.specs.Adding.{terms_where, terms_with}
 use Rattle.ps_phase.proofs.Values.{free_push}
-use Rattle.ps_phase.proofs.Adding.{neither}
 use Rattle.ps_sum.specs.declared.sums.PathSum.{PathSum}
-use Rattle.ps_overlap.specs.Overlapping.{EachTerm, divided, path_terms, Vanishes, LeastVanishing, NoneVanishes}
+use Rattle.ps_overlap.specs.Overlapping.{EachTerm, divided, path_terms, Vanishes, NoneVanishes}
 use Rattle.ps_overlap.specs.Terms.{IsHalfAtInputs, Looked}
 use Rattle.ps_overlap.proofs.Dividing.{stands_divided}
 use Rattle.ps_overlap.proofs.Quotients.{below_stands}

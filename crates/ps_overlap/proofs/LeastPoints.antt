@@ -1,19 +1,18 @@
 -- The points at which a closed sum shows that it is not 1.
-use Rattle.std.proofs.Common.{SFits, to_z, of_z, w32, ◌≤ℤ◌, ◌≡◌, ◌≢◌, ℕ, zero, suc, ◌+◌, ◌-◌, ◌%◌, refl, ap, ap₂, sym, ◌∙◌, subst, arith, ◌<◌, ◌≤◌, Bool, true, false, ◌||◌, nat_lt, List, [], ◌∷◌, ◌++◌, length, get_or, Ordering, Less, Equal, Greater, ◌⊎◌, inl, inr}
+use Rattle.std.proofs.Common.{SFits, to_z, of_z, w32, ◌≤ℤ◌, ◌≡◌, ◌≢◌, ℕ, zero, suc, ◌+◌, ◌-◌, ◌%◌, refl, ap, sym, ◌∙◌, subst, arith, ◌<◌, ◌≤◌, Bool, true, false, nat_lt, List, [], ◌∷◌, ◌++◌, length, get_or, Ordering, Less, Equal, Greater, ◌⊎◌, inl, inr}
 use Rattle.std.proofs.Math.IntN.{ℤ, pos, negsuc}
 use Rattle.std.proofs.lemmas.Int.{ints, to_z-of_z}
 use Rattle.std.proofs.Math.ListN.{get_or-append}
 use Rattle.std.proofs.lemmas.Bool.Decides.{nat_tests}
 use Rattle.ps_ring.specs.Truths.{Truths, bit}
 use Rattle.ps_ring.specs.Sums.{insert_at, signed_count}
-use Rattle.ps_ring.specs.Readings.{Assignment, taken}
 use Rattle.ps_mono.specs.Sets.{mono_cmp, stands, Below}
 use Rattle.ps_mono.proofs.Orders.{mono_equal, mono_flip, mono_trans, never_self}
-use Rattle.ps_bool.specs.Polys.{bool_value, Before, IsPoly}
+use Rattle.ps_bool.specs.Polys.{bool_value, Before}
 use Rattle.ps_bool.proofs.Unique.{bool_value-agree, bool_value-least}
 use Rattle.ps_phase.specs.declared.terms.Term.{Term}
 use Rattle.ps_phase.specs.Phases.{phase_value, phase_occurs, TermBefore, IsPhasePoly}
-use Rattle.ps_phase.specs.Adding.{terms_where, terms_with, terms_without}
+use Rattle.ps_phase.specs.Adding.{terms_with, terms_without}
 use Rattle.ps_phase.proofs.Scaling.{selected_form}
 use Rattle.ps_phase.proofs.Unique.{value_at_least}
 use Rattle.ps_phase.proofs.Values.{phase_agree}
@@ -26,7 +25,6 @@ use Rattle.ps_sum.specs.Sums.{path_values}
 use Rattle.ps_sum.proofs.Uniqueness.{taken_length, bit_taken}
 use Rattle.ps_overlap.specs.Overlapping.{EachTerm, SomeTerm, divided, path_terms, Vanishes, point, IsLeastPoint, IsLeastMono, IsFirstPoint}
 use Rattle.ps_overlap.specs.Terms.{LeastQuotient}
-use Rattle.ps_overlap.proofs.Dividing.{divided_less}
 use Rattle.ps_overlap.proofs.Quotients.{quotients, AllHave, all_have, quotients_poly, quotients_below, phase_was, rest_free, value_free}
 
 clash : {b : Bool} → b ≡ true → b ≡ false → ⊥
@@ -146,8 +144,8 @@ turn_there n (t ∷ ts) bits p b q e =
     let f = first_mono_least t ts p in
     let d : t.mono ≡ bits = least_one (λ t. t.mono) (t ∷ ts) t.mono bits f.one_of f.least q.one_of q.least in
     let w : phase_value (t ∷ ts) (bit (point n bits ++ [])) ≡ t.phase =
-        phase_agree (t ∷ ts) (bit (point n bits ++ [])) (λ u. stands u bits) (λ u o. point_bit n u bits [] (below_all n u (phase_occurs u (t ∷ ts)) (λ l. b u (omega arith)) o))
-        ∙ ap (λ (m : List ℕ). phase_value (t ∷ ts) (λ u. stands u m)) (sym d) ∙ value_at_least t ts p in
+    phase_agree (t ∷ ts) (bit (point n bits ++ [])) (λ u. stands u bits) (λ u o. point_bit n u bits [] (below_all n u (phase_occurs u (t ∷ ts)) (λ l. b u (omega arith)) o))
+    ∙ ap (λ (m : List ℕ). phase_value (t ∷ ts) (λ u. stands u m)) (sym d) ∙ value_at_least t ts p in
     let nz : t.phase ≢ 0 = p.0.turns in
     let sm : t.phase < 4294967296 = p.0.small in
     nz (omega arith)

@@ -1,8 +1,7 @@
 -- What the overlap's record is.
-use Rattle.std.proofs.Common.{◌≡◌, ℕ, ◌+◌, refl, ap, ap₂, sym, ◌∙◌, arith, ◌<◌, ◌≤◌, SFits, to_z, of_z, w32, ◌≤ℤ◌, List, [], length, false}
+use Rattle.std.proofs.Common.{◌≡◌, ℕ, ap, ap₂, ◌∙◌, arith, ◌<◌, ◌≤◌, SFits, to_z, of_z, w32, ◌≤ℤ◌, List, [], length, false}
 use Rattle.std.proofs.Math.IntN.{ℤ, pos, negsuc, ◌+ℤ◌}
 use Rattle.std.proofs.lemmas.Int.{ints, to_z-of_z}
-
 use Rattle.ps_sum.specs.Forms.{AllPolys}
 use Rattle.ps_sum.specs.Outs.{outs_occur}
 

@@ -1,7 +1,6 @@
 -- There is one overlap of two sums, and it names few variables.
-use Rattle.std.proofs.Common.{◌≡◌, ℕ, suc, ◌+◌, ◌%◌, refl, ap, ap₂, sym, ◌∙◌, subst, arith, ◌<◌, ◌≤◌, Bool, List, [], ◌∷◌, ◌++◌, length, take, drop}
+use Rattle.std.proofs.Common.{◌≡◌, ℕ, ◌+◌, ◌%◌, ap, ap₂, sym, ◌∙◌, arith, ◌<◌, ◌≤◌, List, ◌++◌, length, take, drop}
 use Rattle.std.proofs.lemmas.List.{take-append-drop, length-take, length-drop}
-use Rattle.std.proofs.Math.IntN.{ℤ, pos, ◌+ℤ◌}
 use Rattle.ps_ring.specs.Truths.{Truths, bit}
 use Rattle.ps_ring.specs.Sums.{PathValues}
 use Rattle.ps_ring.specs.Joins.{OverlapSum, pairing, IsOpen}
@@ -9,7 +8,7 @@ use Rattle.ps_sum.specs.declared.sums.PathSum.{PathSum}
 use Rattle.ps_sum.specs.declared.faults.Passed.{Passed}
 use Rattle.ps_sum.specs.declared.faults.What.{What}
 use Rattle.ps_sum.specs.Outs.{values}
-use Rattle.ps_sum.specs.Sums.{path_values, SameValues}
+use Rattle.ps_sum.specs.Sums.{path_values}
 use Rattle.ps_sum.proofs.Closings.{length_values}
 use Rattle.ps_sum.proofs.Uniqueness.{sum_only}
 use Rattle.ps_overlap.specs.Overlapping.{IsOverlapOf, OverlapPasses}

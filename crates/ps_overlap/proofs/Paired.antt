@@ -1,8 +1,7 @@
 -- Half a turn for each place at which the outputs of two sums differ.
-use Rattle.std.proofs.Common.{◌≡◌, ◌≢◌, ℕ, zero, suc, ◌+◌, ◌-◌, ◌%◌, refl, ap, ap₂, sym, ◌∙◌, arith, ◌<◌, ◌≤◌, Bool, true, false, ◌&&◌, ◌||◌, cond, nat_eq, List, [], ◌∷◌, ◌++◌, length, take, drop, get_or}
+use Rattle.std.proofs.Common.{◌≡◌, ◌≢◌, ℕ, suc, ◌+◌, ◌-◌, ◌%◌, refl, ap, ap₂, sym, ◌∙◌, arith, ◌<◌, ◌≤◌, Bool, true, false, ◌&&◌, ◌||◌, cond, List, [], ◌∷◌, ◌++◌, length, take, drop, get_or}
 use mathlib.Core.Bool.{xor}
 use Rattle.std.proofs.Math.Seq.{drop-cons}
-use Rattle.std.proofs.lemmas.Bool.Decides.{nat_tests}
 use Rattle.std.proofs.lemmas.List.{take_more, take_all}
 use Rattle.ps_mono.specs.Sets.{holds, stands}
 use Rattle.ps_mono.specs.Lists.{nat_eq_other}
@@ -18,7 +17,7 @@ use Rattle.ps_ring.specs.Readings.{Assignment, taken, moved_name}
 use Rattle.ps_sum.specs.Outs.{values, outs_occur}
 use Rattle.ps_sum.proofs.Lifts.{bool_push, mono_free}
 use Rattle.ps_sum.proofs.Closings.{outs_get}
-use Rattle.ps_overlap.proofs.Moved.{NotMoved, stands_one, holds_one}
+use Rattle.ps_overlap.proofs.Moved.{stands_one, holds_one}
 
 -- ---- one output, read at s a
 half_more : (b r h : Bool) (x s : ℕ) → x % 4294967296 ≡ (s + cond (b && r) 2147483648 0) % 4294967296 → (x + times (h && b) 2147483648) % 4294967296 ≡ (s + cond (b && differ r h) 2147483648 0) % 4294967296
@@ -129,10 +128,10 @@ pairing_more lo n by fs gs start out mid out' i f g w el h ef eg ew v1 v2 f1 f2 
       let p1 = v1 a ∙ ap (λ q. (phase_value out a + cond (q && bool_value f a) 2147483648 0) % 4294967296) hw in
       let p2 = v2 a ∙ ap (λ q. (phase_value mid a + cond (q && bool_value g b) 2147483648 0) % 4294967296) hw in
       let front : pairing (taken (lo + i) (length fs - i) a) (values (drop i fs) a) (values (drop i gs) b) ≡ cond (a (lo + i) && xor (bool_value f a) (bool_value g b)) 2147483648 0 + r =
-          ap (λ (x : ℕ). pairing (taken (lo + i) x a) (values (drop i fs) a) (values (drop i gs) b)) c
-          ∙ ap₂ (λ (x y : List (List (List ℕ))). pairing (taken (lo + i) (suc k) a) (values x a) (values y b)) df dg
-          ∙ pair_head (lo + i) k a b f g (drop (i + 1) fs) (drop (i + 1) gs)
-          ∙ ap (λ (x : ℕ). cond (a (lo + i) && xor (bool_value f a) (bool_value g b)) 2147483648 0 + pairing (taken x k a) (values (drop (i + 1) fs) a) (values (drop (i + 1) gs) b)) d in
+      ap (λ (x : ℕ). pairing (taken (lo + i) x a) (values (drop i fs) a) (values (drop i gs) b)) c
+      ∙ ap₂ (λ (x y : List (List (List ℕ))). pairing (taken (lo + i) (suc k) a) (values x a) (values y b)) df dg
+      ∙ pair_head (lo + i) k a b f g (drop (i + 1) fs) (drop (i + 1) gs)
+      ∙ ap (λ (x : ℕ). cond (a (lo + i) && xor (bool_value f a) (bool_value g b)) 2147483648 0 + pairing (taken x k a) (values (drop (i + 1) fs) a) (values (drop (i + 1) gs) b)) d in
       both_halves (a (lo + i)) (bool_value f a) (bool_value g b) (phase_value out a) (phase_value mid a) (phase_value out' a) r p1 p2
       ∙ ap (λ x. (phase_value out a + x) % 4294967296) (sym front) ∙ s.value a;
   free = λ u l of og o.

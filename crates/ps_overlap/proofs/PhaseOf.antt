@@ -1,12 +1,12 @@
 -- The phase of an overlap, and that it makes the overlap.
-use Rattle.std.proofs.Common.{◌≡◌, ◌≢◌, ℕ, zero, suc, ◌+◌, ◌-◌, ◌%◌, refl, ap, ap₂, sym, ◌∙◌, arith, ◌<◌, ◌≤◌, Bool, true, false, ◌||◌, nat_lt, cond, List, [], ◌∷◌, ◌++◌, length}
-use Rattle.std.proofs.Math.IntN.{ℤ, pos, ◌+ℤ◌}
+use Rattle.std.proofs.Common.{◌≡◌, ℕ, ◌+◌, ◌%◌, refl, ap, ap₂, sym, ◌∙◌, arith, ◌<◌, ◌≤◌, Bool, true, false, nat_lt, cond, List, [], ◌∷◌, ◌++◌, length}
+use Rattle.std.proofs.Math.IntN.{pos, ◌+ℤ◌}
 use Rattle.std.proofs.lemmas.Bool.Decides.{nat_tests}
 use Rattle.ps_ring.specs.Truths.{Truths, bit}
-use Rattle.ps_ring.specs.Joins.{OverlapSum, pairing}
+use Rattle.ps_ring.specs.Joins.{pairing}
 use Rattle.ps_ring.specs.Readings.{Assignment, IsUnder, taken, moved_name, OverlapReading}
 use Rattle.ps_ring.proofs.ReadJoins.{overlap_read}
-use Rattle.ps_bool.specs.Polys.{bool_value, occurs}
+use Rattle.ps_bool.specs.Polys.{occurs}
 use Rattle.ps_bool.proofs.Unique.{bool_value-agree}
 use Rattle.ps_phase.specs.declared.terms.Term.{Term}
 use Rattle.ps_phase.specs.Phases.{phase_value, phase_occurs}
@@ -14,7 +14,6 @@ use Rattle.ps_phase.proofs.Values.{phase_agree}
 use Rattle.ps_phase.proofs.Adding.{neither}
 use Rattle.ps_sum.specs.declared.sums.PathSum.{PathSum}
 use Rattle.ps_sum.specs.Outs.{values, outs_occur}
-use Rattle.ps_sum.specs.Sums.{path_values}
 use Rattle.ps_overlap.specs.Overlapping.{IsOverlapOf}
 use Rattle.ps_overlap.proofs.Paired.{moved_at, OutsNotMoved}
 use Rattle.ps_overlap.proofs.Moved.{TermsNotMoved}
@@ -60,10 +59,10 @@ phase_is S1 S2 lo t0 t1 t2 t3 p ts1 ts2 fs gs el e0 e1 e2 ef eg op v1 v2 v3 v4 a
     let place : lo ≡ S1.n + (S1.m + S2.m) = omega arith in
     let r = pairing (taken (S1.n + (S1.m + S2.m)) S1.n a) (values S1.outs a) (values S2.outs b) in
     let pr : pairing (taken lo (length fs) a) (values fs a) (values gs b) ≡ r =
-        ap₂ (λ (x y : ℕ). pairing (taken x y a) (values fs a) (values gs b)) place wide
-        ∙ ap₂ (λ (x y : List (List (List ℕ))). pairing (taken (S1.n + (S1.m + S2.m)) S1.n a) (values x a) (values y b)) ef eg in
+    ap₂ (λ (x y : ℕ). pairing (taken x y a) (values fs a) (values gs b)) place wide
+    ∙ ap₂ (λ (x y : List (List (List ℕ))). pairing (taken (S1.n + (S1.m + S2.m)) S1.n a) (values x a) (values y b)) ef eg in
     four (phase_value t0 a) (phase_value t1 a) (phase_value t2 a) (phase_value t3 a) (phase_value p a) (phase_value S1.phase a) (phase_value S2.phase b) r
-        (ap (λ (x : List Term). phase_value x a) e0) (v1 a ∙ ap (λ (x : List Term). phase_value t0 a + phase_value x b) e2) (ap (λ (x : List Term). (phase_value t2 a + phase_value x a) % 4294967296) (sym e1) ∙ v2 a) (v3 a ∙ ap (λ x. (phase_value t2 a + x) % 4294967296) pr) (v4 a)
+    (ap (λ (x : List Term). phase_value x a) e0) (v1 a ∙ ap (λ (x : List Term). phase_value t0 a + phase_value x b) e2) (ap (λ (x : List Term). (phase_value t2 a + phase_value x a) % 4294967296) (sym e1) ∙ v2 a) (v3 a ∙ ap (λ x. (phase_value t2 a + x) % 4294967296) pr) (v4 a)
 
 -- ---- its variables
 moved_beyond : (n m1 m2 v w : ℕ) → n + (m1 + m2 + n) ≤ w → moved_name n m1 v ≡ w → n + m2 ≤ v

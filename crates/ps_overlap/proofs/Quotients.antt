@@ -1,16 +1,15 @@
 -- The terms with a variable, divided by it.
-use Rattle.std.proofs.Common.{◌≡◌, ◌≢◌, ℕ, suc, ◌+◌, ◌%◌, refl, ap, ap₂, sym, ◌∙◌, subst, arith, ◌<◌, ◌≤◌, Bool, true, false, not, ◌&&◌, ◌||◌, cond, nat_eq, List, [], ◌∷◌, Less}
-use Rattle.ps_mono.specs.Sets.{mono_cmp, stands, holds, IsVarSet, Below}
+use Rattle.std.proofs.Common.{◌≡◌, ◌≢◌, ℕ, ◌+◌, ◌%◌, refl, ap, ap₂, ◌∙◌, arith, ◌<◌, ◌≤◌, Bool, true, false, ◌&&◌, ◌||◌, cond, nat_eq, List, [], ◌∷◌}
+use Rattle.ps_mono.specs.Sets.{stands, holds, IsVarSet, Below}
 use Rattle.ps_mono.specs.Lists.{nat_eq_true}
 use Rattle.ps_mono.specs.Truth.{times, differ}
-use Rattle.ps_bool.specs.Polys.{bool_value, occurs, Each, Before, Ascending, AllSets, IsPoly}
+use Rattle.ps_bool.specs.Polys.{bool_value, occurs, Before, Ascending, AllSets, IsPoly}
 use Rattle.ps_bool.proofs.Unique.{bool_value-agree}
 use Rattle.ps_phase.specs.declared.terms.Term.{Term}
 use Rattle.ps_phase.specs.Phases.{phase_value, phase_occurs, TermBefore, IsPhasePoly}
 use Rattle.ps_phase.specs.Adding.{terms_where, terms_with, terms_without}
 use Rattle.ps_phase.proofs.Scaling.{split_value}
 use Rattle.ps_phase.proofs.Values.{phase_agree}
-use Rattle.ps_phase.proofs.Adding.{neither}
 use Rattle.ps_ring.specs.Readings.{Assignment, Ignores}
 use Rattle.ps_overlap.specs.Overlapping.{EachTerm, divided}
 use Rattle.ps_overlap.proofs.Dividing.{divided_set, divided_less, holds_divided}

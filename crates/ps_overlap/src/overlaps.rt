@@ -86,6 +86,13 @@ fn overlap_phase(alloc: Global, first: &PathSum, second: &PathSum) -> Result<Pha
     let mut terms = Vec::new(alloc);
     push_moved(&mut terms, second.phase.terms(), n, by)?;
     push_negated(&mut terms, first.phase.terms())?;
-    push_pairings(&mut terms, first.outs.polys(), second.outs.polys(), lo, n, by)?;
+    push_pairings(
+        &mut terms,
+        first.outs.polys(),
+        second.outs.polys(),
+        lo,
+        n,
+        by,
+    )?;
     PhasePoly::gather(terms)
 }

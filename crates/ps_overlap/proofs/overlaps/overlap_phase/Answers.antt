@@ -1,8 +1,7 @@
-use Rattle.std.proofs.Common.{◌≡◌, ℕ, ◌+◌, ◌%◌, ◌≤◌, false, List, refl}
+use Rattle.std.proofs.Common.{◌≡◌, ℕ, ◌+◌, ◌≤◌, false, refl}
 use Rattle.std.proofs.lemmas.Result.{IfOk-weaker}
-use Rattle.ps_phase.specs.declared.terms.Term.{Term}
 use Rattle.ps_phase.specs.Phases.{phase_occurs}
-use Rattle.ps_overlap.proofs.PhaseOf.{PhaseIs, phase_is, phase_free, small_phase, small_outs}
+use Rattle.ps_overlap.proofs.PhaseOf.{PhaseIs, phase_is, phase_free}
 use Rattle.ps_overlap.proofs.overlaps.overlap_phase.Goals as goal
 
 pub returns-clause-value : goal.returns-clause-value

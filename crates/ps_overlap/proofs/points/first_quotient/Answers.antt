@@ -1,6 +1,6 @@
 use Rattle.ps_phase.proofs.Values.{free_more}
-use Rattle.std.proofs.Common.{refl, sym, ◌∙◌}
-use Rattle.ps_overlap.proofs.FirstTerms.{quotient_found, quotient_missing, free_start}
+use Rattle.std.proofs.Common.{sym, ◌∙◌}
+use Rattle.ps_overlap.proofs.FirstTerms.{quotient_found, free_start}
 use Rattle.ps_overlap.proofs.points.first_quotient.Goals as goal
 
 pub loop-term-init : goal.loop-term-init
