@@ -1,0 +1,10 @@
+//! The path sums of primitive gates, and path sums one after the other.
+#![tactic(auto)]
+
+pub mod joins;
+pub mod leaves;
+pub mod onto_fault;
+
+pub use joins::{join, join_onto};
+pub use leaves::{identity, leaf};
+pub use onto_fault::OntoFault;
