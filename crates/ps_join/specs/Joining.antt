@@ -2,7 +2,7 @@
 use Rattle.std.specs.Prelude.{ℕ, suc, ◌≡◌, ◌+◌, ◌*◌, ◌%◌, ◌<◌, ◌≤◌, ◌⊎◌, min, List, [], ◌∷◌, Option, Some, None, length}
 use Rattle.ps_ring.specs.Readings.{Assignment, second_name}
 use Rattle.ps_ring.specs.Joins.{IdentitySum, JoinedSum}
-use Rattle.ps_prim.specs.declared.prims.Prim.{Prim}
+use Rattle.ps_prim.specs.declared.prims.Primitive.{Primitive as Prim}
 use Rattle.ps_prim.specs.Sums.{LeafSum}
 use Rattle.ps_mono.specs.Truth.{with_value}
 use Rattle.ps_bool.specs.Polys.{bool_value, IsPoly}

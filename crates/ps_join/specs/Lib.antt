@@ -1,3 +1,4 @@
+pub mod Inputs
 pub mod Joining
 pub mod Faults
 pub mod OntoFaults

@@ -1,5 +1,5 @@
 ghost use Rattle.std.specs.Prelude.{◌≡◌, ℕ, ◌<◌, ◌≤◌, ◌++◌, List, length, IfOk, IfErr, OnOk, pos, negsuc, ◌+ℤ◌, ◌≤ℤ◌};
-ghost use Rattle.ps_prim.specs.declared.prims.Prim.{Prim};
+ghost use Rattle.ps_prim.specs.declared.prims.Primitive.{Primitive as Prim};
 ghost use Rattle.ps_prim.specs.Sums.{Denotes};
 ghost use Rattle.ps_sum.specs.Sums.{path_values};
 ghost use Rattle.ps_join.specs.Joining.{IsJoinOf, JoinFits};
