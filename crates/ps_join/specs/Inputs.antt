@@ -1,13 +1,13 @@
 -- Outputs that are inputs, and the phase of a rotation.
-use Rattle.std.specs.Prelude.{ℕ, suc, ◌≡◌, ◌<◌, ◌+◌, ◌*◌, ◌%◌, ◌&&◌, cond, List, [], ◌∷◌, length, get_or}
+use Rattle.std.specs.Prelude.{ℕ, zero, suc, ◌≡◌, ◌+◌, ◌*◌, ◌%◌, ◌&&◌, cond, List, [], ◌∷◌}
 use Rattle.ps_ring.specs.Readings.{Assignment}
 use Rattle.ps_phase.specs.declared.terms.Term.{Term}
 use Rattle.ps_phase.specs.Phases.{phase_value}
 
--- each of n outputs is its input
-pub record AreInputs (n : ℕ) (outs : List (List (List ℕ))) : Type 0 where
-  pub wide : length outs ≡ n
-  pub each : (q : ℕ) → q < n → get_or outs q [] ≡ (q ∷ []) ∷ []
+-- the n inputs from lo on, each by itself
+unfoldable pub inputs_from : ℕ → ℕ → List (List (List ℕ))
+inputs_from lo zero = []
+inputs_from lo (suc n) = ((lo ∷ []) ∷ []) ∷ inputs_from (suc lo) n
 
 -- the phase of U on input q, with the path variables n and n + 1
 abbrev pub IsRotation : ℕ → ℕ → ℕ → ℕ → ℕ → List Term → Type 0

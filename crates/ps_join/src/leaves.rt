@@ -4,10 +4,11 @@ ghost use Rattle.ps_phase.specs.Phases.{phase_occurs, IsPhasePoly};
 ghost use Rattle.ps_prim.specs.declared.prims.Primitive.TheVariants.{U, Cx};
 ghost use Rattle.ps_prim.specs.Maps.{IsWithin};
 ghost use Rattle.ps_prim.specs.Sums.{Denotes};
+ghost use Rattle.ps_sum.specs.Forms.{IsFormed};
 ghost use Rattle.ps_sum.specs.Outs.{outs_occur};
 ghost use Rattle.ps_sum.specs.Sums.{path_values};
 ghost use Rattle.ps_join.specs.Joining.{IsLeafOf, IsIdentityOf};
-ghost use Rattle.ps_join.specs.Inputs.{AreInputs, IsRotation};
+ghost use Rattle.ps_join.specs.Inputs.{inputs_from, IsRotation};
 
 use ps_bool::BoolPoly;
 use ps_mono::Mono;
@@ -148,7 +149,7 @@ fn exchange(alloc: Global, c: u32, t: u32, n: u32) -> Result<PathSum, AllocError
 // Each output is its input.
 fn inputs(alloc: Global, n: u32) -> Result<Vec<BoolPoly>, AllocError>
     requires { n ≤ 64 }
-    ensures { IfOk result (λ v. AreInputs n v.items) }
+    ensures { IfOk result (λ v. v.items ≡ inputs_from 0 n) }
 {
     let mut outs = Vec::with_capacity(alloc, n as usize)?;
     for v in 0..n as u16 {
@@ -164,6 +165,7 @@ fn small_sum(n: u32, m: u32, phase: PhasePoly, outs: Vec<BoolPoly>) -> PathSum
     requires phase_below { (v : ℕ) → n + m ≤ v → phase_occurs v phase ≡ false }
     requires outs_below { (v : ℕ) → n + m ≤ v → outs_occur v outs.items ≡ false }
     requires width { length outs.items ≡ n }
+    requires formed { IsFormed phase outs.items }
     ensures n { result.n ≡ n }
     ensures m { result.m ≡ m }
     ensures k { result.k ≡ pos m }
