@@ -1,2 +1,4 @@
 pub mod Outputs
 pub mod LeafSums
+pub mod NamedParts
+pub mod Chains

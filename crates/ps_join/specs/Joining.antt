@@ -63,26 +63,26 @@ pub record BoolNamed (n m1 m2 : ℕ) (p q : List (List ℕ)) : Type 0 where
   pub form : IsPoly q
   pub value : (a : Assignment) → bool_value q a ≡ bool_value p (λ v. a (second_name n m1 m2 v))
 
--- the first sum's outputs replace all inputs in the second's phase, in order
-abbrev pub PhaseChain : PathSum → PathSum → Option ℕ → Type 0
-PhaseChain S1 S2 end = (p : List Term) × (PhaseNamed S1.n S1.m S2.m S2.phase p × Chain (List Term) raw_phase PhaseAfter (S1.n + (S1.m + S2.m)) S1.outs p end)
+-- the outputs fs of the first sum replace all inputs in the second's phase p, in order
+abbrev pub PhaseChain : ℕ → ℕ → ℕ → List (List (List ℕ)) → List Term → Option ℕ → Type 0
+PhaseChain n m1 m2 fs p end = (q : List Term) × (PhaseNamed n m1 m2 p q × Chain (List Term) raw_phase PhaseAfter (n + (m1 + m2)) fs q end)
 
--- in one output g of the second
-abbrev pub OutputChain : PathSum → PathSum → List (List ℕ) → Option ℕ → Type 0
-OutputChain S1 S2 g end = (p : List (List ℕ)) × (BoolNamed S1.n S1.m S2.m g p × Chain (List (List ℕ)) raw_bool BoolAfter (S1.n + (S1.m + S2.m)) S1.outs p end)
+-- and in one output g of the second
+abbrev pub OutputChain : ℕ → ℕ → ℕ → List (List (List ℕ)) → List (List ℕ) → Option ℕ → Type 0
+OutputChain n m1 m2 fs g end = (q : List (List ℕ)) × (BoolNamed n m1 m2 g q × Chain (List (List ℕ)) raw_bool BoolAfter (n + (m1 + m2)) fs q end)
 
 -- the first ends at a count, or else at None, and the next ends so
 abbrev pub Then : (Option ℕ → Type 0) → (Option ℕ → Type 0) → Option ℕ → Type 0
 Then First Next end = ((count : ℕ) × (First (Some count) × (end ≡ Some count))) ⊎ (First None × Next end)
 
 -- in the outputs gs of the second, one after the other
-abbrev pub OutputChains : PathSum → PathSum → List (List (List ℕ)) → Option ℕ → Type 0
-OutputChains S1 S2 [] end = end ≡ None
-OutputChains S1 S2 (g ∷ gs) end = Then (OutputChain S1 S2 g) (OutputChains S1 S2 gs) end
+abbrev pub OutputChains : ℕ → ℕ → ℕ → List (List (List ℕ)) → List (List (List ℕ)) → Option ℕ → Type 0
+OutputChains n m1 m2 fs [] end = end ≡ None
+OutputChains n m1 m2 fs (g ∷ gs) end = Then (OutputChain n m1 m2 fs g) (OutputChains n m1 m2 fs gs) end
 
 -- in the second's phase, and then in each of its outputs, the first of them first
 abbrev pub JoinChain : PathSum → PathSum → Option ℕ → Type 0
-JoinChain S1 S2 end = Then (PhaseChain S1 S2) (OutputChains S1 S2 S2.outs) end
+JoinChain S1 S2 end = Then (PhaseChain S1.n S1.m S2.m S1.outs S2.phase) (OutputChains S1.n S1.m S2.m S1.outs S2.outs) end
 
 -- how many variables a join names: the inputs of both, and all path variables
 abbrev pub named_count : PathSum → PathSum → ℕ

@@ -2,3 +2,5 @@ pub mod Inputs
 pub mod Joining
 pub mod Faults
 pub mod OntoFaults
+pub mod Naming
+pub mod Parts

@@ -3,7 +3,9 @@
 
 pub mod joins;
 pub mod leaves;
+mod naming;
 pub mod onto_fault;
+mod replacing;
 
 pub use joins::{join, join_onto};
 pub use leaves::{identity, leaf};
