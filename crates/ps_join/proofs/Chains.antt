@@ -1,10 +1,12 @@
 -- Chains of replacements, one step after the other.
-use Rattle.std.proofs.Common.{◌≡◌, ◌≢◌, ℕ, zero, suc, ◌+◌, ◌%◌, refl, ap, ap₂, sym, ◌∙◌, subst, arith, ◌<◌, ◌≤◌, Bool, true, false, cond, not, nat_eq, ◌&&◌, ◌||◌, min, List, [], ◌∷◌, length, drop, get_or, Option, Some, None, ◌⊎◌, inl, inr}
+use Rattle.std.proofs.Common.{◌≡◌, ◌≢◌, ℕ, zero, suc, ◌+◌, ◌%◌, refl, ap, ap₂, sym, ◌∙◌, subst, arith, ◌<◌, ◌≤◌, Bool, true, false, cond, not, nat_eq, ◌&&◌, ◌||◌, min, List, [], ◌∷◌, ◌++◌, length, drop, get_or, length-append, Option, Some, None, ◌⊎◌, inl, inr}
 use Rattle.std.specs.Prelude.{slice_get, IsTrue}
 use Rattle.std.specs.Cmp.Lexicographic.{pointwise}
-use Rattle.std.proofs.Math.Seq.{drop-cons}
+use Rattle.std.proofs.Math.Seq.{drop-cons, get_or-append_seam}
 use Rattle.ps_bool.proofs.Values.{mono_eq}
 use Rattle.std.proofs.lemmas.Bool.{cases_lt}
+use Rattle.std.proofs.lemmas.List.{get_or_default}
+use Rattle.std.proofs.Math.ListN.{get_or-append}
 use Rattle.ps_mono.specs.Sets.{stands}
 use Rattle.ps_mono.specs.Lists.{nat_eq_true, nat_eq_same, nat_eq_other}
 use Rattle.ps_mono.specs.Truth.{with_value}
@@ -23,10 +25,10 @@ use Rattle.ps_sum.specs.Outs.{values, outs_occur}
 use Rattle.ps_sum.specs.declared.faults.What.TheVariants.{Terms}
 use Rattle.ps_sum.specs.declared.faults.JoinFault.{JoinFault}
 use Rattle.ps_sum.specs.declared.faults.JoinFault.TheVariants.{Passed, Memory}
-use Rattle.ps_join.specs.Joining.{told, Chain, PhaseAfter, BoolAfter, PhaseNamed, BoolNamed, PhaseChain, OutputChain}
+use Rattle.ps_join.specs.Joining.{told, Chain, PhaseAfter, BoolAfter, PhaseNamed, BoolNamed, PhaseChain, OutputChain, OutputChains}
 use Rattle.ps_join.specs.Faults.{IsOver, IsChainFault}
 use Rattle.ps_join.specs.Naming.{Agrees}
-use Rattle.ps_join.specs.Parts.{PhasePart, BoolPart}
+use Rattle.ps_join.specs.Parts.{PhasePart, BoolPart, OutputPart, OutputParts}
 use Rattle.ps_join.proofs.Outputs.{get_value, get_free, get_poly, var_poly, var_free}
 use Rattle.ps_join.proofs.NamedParts.{name_of_own, name_past, name_front}
 
@@ -317,3 +319,45 @@ kept_over n m1 m2 i fs f g (Passed passed) h w r e d o = (
       (((n + (m1 + m2) + i) ∷ []) ∷ [], (input_named n m1 m2 i h r, var_stop fs (n + (m1 + m2)) (n + (m1 + m2) + i) i f (omega (arith, w)) refl (omega arith) e o.0)), o.1),
 )
 kept_over n m1 m2 i fs f g Memory h w r e d o = tt
+
+-- ---- the outputs, i of them replaced
+pub record OutputsLoop (n m1 m2 : ℕ) (fs gs : List (List (List ℕ))) (i : ℕ) (qs : List (Option (List (List ℕ)))) : Type 0 where
+  pub wide : length qs ≡ i
+  pub each : (j : ℕ) → j < i → OutputPart n m1 m2 fs j (get_or gs j []) (get_or qs j None)
+  pub chain : (end : Option ℕ) → OutputChains n m1 m2 fs (drop i gs) end → OutputChains n m1 m2 fs gs end
+
+pub outputs_start : (n m1 m2 : ℕ) (fs gs : List (List (List ℕ))) (qs : List (Option (List (List ℕ)))) → qs ≡ [] → OutputsLoop n m1 m2 fs gs 0 qs
+outputs_start n m1 m2 fs gs qs e = record { wide = ap length e; each = λ j h. absurd (omega arith); chain = λ end c. c }
+
+pub output_below : (gs : List (List (List ℕ))) (i b : ℕ) (g : List (List ℕ)) → i < length gs → g ≡ get_or gs i g → ((v : ℕ) → b ≤ v → outs_occur v gs ≡ false) → (v : ℕ) → b ≤ v → occurs v g ≡ false
+output_below gs i b g h e f v l = ap (occurs v) e ∙ get_free gs i g v h (f v l)
+
+pub outputs_step : (n m1 m2 : ℕ) (fs gs : List (List (List ℕ))) (i : ℕ) (g : List (List ℕ)) (qs rs : List (Option (List (List ℕ)))) (q : Option (List (List ℕ))) → i < length gs → g ≡ get_or gs i g → rs ≡ qs ++ q ∷ []
+    → OutputPart n m1 m2 fs i g q → OutputChain n m1 m2 fs g None → OutputsLoop n m1 m2 fs gs i qs → OutputsLoop n m1 m2 fs gs (i + 1) rs
+outputs_step n m1 m2 fs gs i g qs rs q h e r p c s = record {
+  wide = ap length r ∙ length-append qs (q ∷ []) ∙ ap (λ k. k + 1) s.wide;
+  each = λ j l. subst (λ (x : Option (List (List ℕ))). OutputPart n m1 m2 fs j (get_or gs j []) x) (ap (λ (x : List (Option (List (List ℕ)))). get_or x j None) (sym r)) (by j l (cases_lt j i));
+  chain = λ end d. s.chain end (subst (λ (x : List (List (List ℕ))). OutputChains n m1 m2 fs x end) (sym (cut gs i g h e)) (inr (c, d)));
+}
+  where
+    by : (j : ℕ) → j < i + 1 → ((j < i) ⊎ (i ≤ j)) → OutputPart n m1 m2 fs j (get_or gs j []) (get_or (qs ++ q ∷ []) j None)
+    by j l (inl k) = subst (λ (x : Option (List (List ℕ))). OutputPart n m1 m2 fs j (get_or gs j []) x) (sym (get_or-append qs (q ∷ []) None j (omega (arith, s.wide)))) (s.each j k)
+    by j l (inr k) =
+        let same : j ≡ length qs = omega (arith, s.wide) in
+        let there : j ≡ i = omega arith in
+        let read : get_or gs j [] ≡ g = ap (λ x. get_or gs x []) there ∙ sym (e ∙ get_or_default gs i g [] h) in
+        let last : get_or (qs ++ q ∷ []) j None ≡ q = ap (λ x. get_or (qs ++ q ∷ []) x None) same ∙ get_or-append_seam qs q [] None in
+        subst (λ (x : Option (List (List ℕ))). OutputPart n m1 m2 fs j (get_or gs j []) x) (sym last)
+        (subst (λ (x : List (List ℕ)). OutputPart n m1 m2 fs j x q) (sym read) (subst (λ (x : ℕ). OutputPart n m1 m2 fs x g q) (sym there) p))
+
+pub outputs_parts : (n m1 m2 : ℕ) (fs gs : List (List (List ℕ))) (i : ℕ) (qs : List (Option (List (List ℕ)))) → i ≡ length gs → OutputsLoop n m1 m2 fs gs i qs → OutputParts n m1 m2 fs gs qs
+outputs_parts n m1 m2 fs gs i qs e s = record { wide = s.wide ∙ e; each = λ j h. s.each j (omega (arith, e)) }
+
+pub outputs_fit : (n m1 m2 : ℕ) (fs gs : List (List (List ℕ))) (i : ℕ) (qs : List (Option (List (List ℕ)))) → i ≡ length gs → OutputsLoop n m1 m2 fs gs i qs → OutputChains n m1 m2 fs gs None
+outputs_fit n m1 m2 fs gs i qs e s = s.chain None (subst (λ (x : List (List (List ℕ))). OutputChains n m1 m2 fs x None) (sym (drop_rest gs i (omega (arith, e)))) refl)
+
+pub outputs_over : (n m1 m2 : ℕ) (fs gs : List (List (List ℕ))) (i : ℕ) (g : List (List ℕ)) (qs : List (Option (List (List ℕ)))) (e : JoinFault) → i < length gs → g ≡ get_or gs i g → IsChainFault (OutputChain n m1 m2 fs g) e
+    → OutputsLoop n m1 m2 fs gs i qs → IsChainFault (OutputChains n m1 m2 fs gs) e
+outputs_over n m1 m2 fs gs i g qs (Passed passed) h d o s =
+    (o.0, (s.chain (Some o.0) (subst (λ (x : List (List (List ℕ))). OutputChains n m1 m2 fs x (Some o.0)) (sym (cut gs i g h d)) (inl (o.0, (o.1.0, refl)))), o.1.1))
+outputs_over n m1 m2 fs gs i g qs Memory h d o s = tt

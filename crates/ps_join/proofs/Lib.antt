@@ -2,3 +2,4 @@ pub mod Outputs
 pub mod LeafSums
 pub mod NamedParts
 pub mod Chains
+pub mod Merging

@@ -29,6 +29,16 @@ pub record OutputParts (n m1 m2 : ℕ) (fs gs : List (List (List ℕ))) (qs : Li
   pub wide : length qs ≡ length gs
   pub each : (i : ℕ) → i < length gs → OutputPart n m1 m2 fs i (get_or gs i []) (get_or qs i None)
 
+-- the output that a part gives, or the first's own
+abbrev pub chosen : Option (List (List ℕ)) → List (List ℕ) → List (List ℕ)
+chosen None f = f
+chosen (Some q) f = q
+
+-- in gs the parts qs stand in their places among the outputs fs
+pub record Placed (fs : List (List (List ℕ))) (qs : List (Option (List (List ℕ)))) (gs : List (List (List ℕ))) : Type 0 where
+  pub wide : length gs ≡ length fs
+  pub each : (i : ℕ) → i < length fs → get_or gs i [] ≡ chosen (get_or qs i None) (get_or fs i [])
+
 -- what the second's phase and outputs come to behind the first
 pub record IsParts (S1 S2 : PathSum) (phase : List Term) (outs : List (Option (List (List ℕ)))) : Type 0 where
   pub phase_part : PhasePart S1.n S1.m S2.m S1.outs S2.phase phase

@@ -1,4 +1,4 @@
-ghost use Rattle.std.specs.Prelude.{◌≡◌, ℕ, ◌<◌, ◌≤◌, ◌+◌, ◌%◌, Bool, true, false, IfOk};
+ghost use Rattle.std.specs.Prelude.{◌≡◌, ℕ, ◌<◌, ◌≤◌, ◌+◌, ◌*◌, ◌%◌, Bool, true, false, IfOk};
 ghost use Rattle.ps_mono.specs.Sets.{stands};
 ghost use Rattle.ps_bool.specs.Polys.{occurs};
 ghost use Rattle.ps_phase.specs.Phases.{phase_occurs};
@@ -9,6 +9,7 @@ ghost use Rattle.ps_join.specs.Naming.{stands_as};
 use ps_bool::BoolPoly;
 use ps_mono::Mono;
 use ps_phase::{PhasePoly, Term};
+use ps_sum::PathSum;
 use std::alloc::{AllocError, Global};
 
 /// The names that the second sum's variables have in a join on `n` qubits of sums with `m1` and `m2`
@@ -22,6 +23,20 @@ pub(crate) struct Names {
 }
 
 impl Names {
+    /// The names in the join of these two sums.
+    pub(crate) fn of_sums(first: &PathSum, second: &PathSum) -> Names
+        requires { 2 * first.now.n + first.now.m + second.now.m ≤ 512 }
+        ensures n { result.n ≡ first.now.n }
+        ensures m1 { result.m1 ≡ first.now.m }
+        ensures m2 { result.m2 ≡ second.now.m }
+    {
+        Names {
+            n: first.n as u16,
+            m1: first.m as u16,
+            m2: second.m as u16,
+        }
+    }
+
     /// The name of an input.
     pub(crate) fn own(&self, input: u16) -> u16
         requires { input < self.now.n }
