@@ -179,3 +179,21 @@ chain_fault S1 S2 n m1 m2 fs hs (Passed passed) en e1 e2 ef eh l c o = inr (l, (
         subst (λ (x : List (List (List ℕ))). P S1.n S1.m S2.m S1.outs x) eh (subst (λ (x : List (List (List ℕ))). P S1.n S1.m S2.m x hs) ef
         (subst (λ (x : ℕ). P S1.n S1.m x fs hs) e2 (subst (λ (x : ℕ). P S1.n x m2 fs hs) e1 (subst (λ (x : ℕ). P x m1 m2 fs hs) en p))))
 chain_fault S1 S2 n m1 m2 fs hs Memory en e1 e2 ef eh l c o = tt
+
+-- ---- a copy
+pub record CopiedParts (S : PathSum) (p : List Term) (gs : List (List (List ℕ))) : Type 0 where
+  pub phase_below : (v : ℕ) → S.n + S.m ≤ v → phase_occurs v p ≡ false
+  pub outs_below : (v : ℕ) → S.n + S.m ≤ v → outs_occur v gs ≡ false
+  pub width : 0 < length gs → length gs ≡ S.n
+  pub formed : IsPhasePoly p × AllPolys gs
+
+pub copied_parts : (S : PathSum) (p : List Term) (gs : List (List (List ℕ))) → p ≡ S.phase → gs ≡ S.outs → CopiedParts S p gs
+copied_parts S p gs e f =
+    subst (λ (q : List Term). CopiedParts S q gs) (sym e) (subst (λ (hs : List (List (List ℕ))). CopiedParts S S.phase hs) (sym f)
+    (record { phase_below = S.phase_below; outs_below = S.outs_below; width = S.width; formed = S.formed }))
+
+pub outputs_kept : (S1 S2 : PathSum) (fs gs rs : List (List (List ℕ))) (qs : List (Option (List (List ℕ)))) → S1.n ≡ S2.n → 0 < length S1.outs → 0 < length S2.outs → fs ≡ S1.outs → rs ≡ gs → OutputParts S1.n S1.m S2.m S1.outs S2.outs qs → Placed fs qs gs
+    → Outputs S1.n S1.m S2.m S1.outs S2.outs rs
+outputs_kept S1 S2 fs gs rs qs e o1 o2 f r p g =
+    outputs_made S1.n S1.m S2.m S1.outs S2.outs rs qs (S1.width o1) (S2.width o2 ∙ sym e) S1.outs_below S1.formed.1 p
+    (subst (λ (x : List (List (List ℕ))). Placed S1.outs qs x) (sym r) (subst (λ (x : List (List (List ℕ))). Placed x qs gs) f g))
