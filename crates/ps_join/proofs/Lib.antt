@@ -3,3 +3,4 @@ pub mod LeafSums
 pub mod NamedParts
 pub mod Chains
 pub mod Merging
+pub mod Only

@@ -4,3 +4,4 @@ pub mod Faults
 pub mod OntoFaults
 pub mod Naming
 pub mod Parts
+pub mod Laws

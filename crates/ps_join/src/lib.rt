@@ -2,6 +2,7 @@
 #![tactic(auto)]
 
 pub mod joins;
+pub mod laws;
 pub mod leaves;
 mod naming;
 pub mod onto_fault;
