@@ -1,5 +1,5 @@
 -- The sums of single gates.
-use Rattle.std.proofs.Common.{◌≡◌, ◌≢◌, ℕ, zero, suc, ◌+◌, ◌-◌, ◌*◌, ◌%◌, refl, ap, ap₂, sym, subst, ◌∙◌, arith, ◌<◌, ◌≤◌, Bool, true, false, not, cond, ◌&&◌, ◌||◌, List, [], ◌∷◌, length, set, get_or}
+use Rattle.std.proofs.Common.{◌≡◌, ◌≢◌, ℕ, zero, suc, ◌+◌, ◌-◌, ◌*◌, ◌%◌, refl, ap, ap₂, sym, subst, ◌∙◌, arith, ◌<◌, ◌≤◌, Bool, true, false, not, cond, ◌&&◌, ◌||◌, List, [], ◌∷◌, ◌++◌, length, set, get_or}
 use Rattle.std.proofs.lemmas.List.{length-set, set-get_or}
 use Rattle.std.proofs.Math.IntN.{ℤ, pos}
 use Rattle.ps_mono.specs.Sets.{holds, stands}
@@ -26,6 +26,7 @@ use Rattle.ps_sum.specs.Outs.{values, outs_occur}
 use Rattle.ps_sum.specs.Sums.{path_values}
 use Rattle.ps_sum.specs.declared.sums.PathSum.{PathSum}
 use Rattle.ps_sum.proofs.Uniqueness.{bit_taken}
+use Rattle.ps_sum.proofs.Closings.{length_values}
 use Rattle.ps_join.specs.Inputs.{inputs_from, IsRotation}
 use Rattle.ps_join.specs.Joining.{IsLeafOf, IsIdentityOf}
 use Rattle.ps_join.proofs.Outputs.{var_poly, var_free, other_stands, inputs_length, inputs_values, inputs_free, inputs_polys, inputs_get, set_values, set_free, set_polys}
@@ -299,3 +300,16 @@ reduced_of w c e = omega arith
 
 pub prim_turn : (g : Prim) (theta units phi lambda q : ℕ) → g ≡ U theta phi lambda q → units ≡ theta → units ≡ 0 → g ≡ U 0 phi lambda q
 prim_turn g theta units phi lambda q e f z = e ∙ ap (λ t. U t phi lambda q) (sym f ∙ z)
+
+-- ---- how many outputs there are
+zeros : (n : ℕ) → Truths
+zeros zero = []
+zeros (suc n) = false ∷ zeros n
+
+zeros_wide : (n : ℕ) → length (zeros n) ≡ n
+unfolding zeros
+zeros_wide zero = refl
+zeros_wide (suc n) = ap suc (zeros_wide n)
+
+pub denotes_wide : (n : ℕ) (S : PathSum) (A : List Prim) → Denotes n (path_values S) A → length S.outs ≡ n
+denotes_wide n S A d = sym (length_values S.outs (bit (zeros n ++ zeros S.m))) ∙ d.width (zeros n) (zeros S.m) (zeros_wide n) (zeros_wide S.m)

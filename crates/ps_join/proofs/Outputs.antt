@@ -1,5 +1,5 @@
 -- Lists of outputs: inputs by themselves, and one output put in place of another.
-use Rattle.std.proofs.Common.{◌≡◌, ◌≢◌, ℕ, zero, suc, ◌+◌, refl, ap, ap₂, sym, ◌∙◌, arith, ◌<◌, ◌≤◌, Bool, true, false, ◌||◌, List, [], ◌∷◌, ◌++◌, length, set, get_or}
+use Rattle.std.proofs.Common.{◌≡◌, ◌≢◌, ℕ, zero, suc, ◌+◌, refl, ap, ap₂, sym, subst, ◌∙◌, arith, ◌<◌, ◌≤◌, Bool, true, false, ◌||◌, List, [], ◌∷◌, ◌++◌, length, set, get_or}
 use Rattle.ps_mono.specs.Sets.{stands, IsVarSet}
 use Rattle.ps_mono.specs.Lists.{members_one, nat_eq_same, nat_eq_other}
 use Rattle.ps_ring.specs.Truths.{Truths, bit}
@@ -30,6 +30,10 @@ pub var_free : (q v : ℕ) → v ≢ q → occurs v ((q ∷ []) ∷ []) ≡ fals
 unfolding occurs
 var_free q v d = ap (λ b. b || false) (other_stands q v d)
 
+-- the polynomial that was pushed so
+pub alone_poly : (q : ℕ) (start out : List (List ℕ)) (m : List ℕ) → q < 512 → start ≡ [] → m ≡ q ∷ [] → out ≡ start ++ m ∷ [] → IsPoly out
+alone_poly q start out m h s e o = subst IsPoly (sym (o ∙ ap₂ (λ (f : List (List ℕ)) (k : List ℕ). f ++ k ∷ []) s e)) (var_poly q h)
+
 -- ---- the inputs by themselves
 pub inputs_more : (lo n : ℕ) → inputs_from lo (n + 1) ≡ inputs_from lo n ++ (((lo + n) ∷ []) ∷ []) ∷ []
 unfolding inputs_from
@@ -38,6 +42,11 @@ inputs_more lo (suc n) =
     let e : suc n + 1 ≡ suc (n + 1) = omega arith in
     let f : suc lo + n ≡ lo + suc n = omega arith in
     ap (inputs_from lo) e ∙ ap (λ (r : List (List (List ℕ))). ((lo ∷ []) ∷ []) ∷ r) (inputs_more (suc lo) n ∙ ap (λ k. inputs_from (suc lo) n ++ ((k ∷ []) ∷ []) ∷ []) f)
+
+pub inputs_push : (n : ℕ) (outs new : List (List (List ℕ))) (f : List (List ℕ)) → outs ≡ inputs_from 0 n → f ≡ (n ∷ []) ∷ [] → new ≡ outs ++ f ∷ [] → new ≡ inputs_from 0 (n + 1)
+inputs_push n outs new f e g h =
+    let z : n ≡ 0 + n = omega arith in
+    h ∙ ap₂ (λ (o : List (List (List ℕ))) (p : List (List ℕ)). o ++ p ∷ []) e (g ∙ ap (λ (k : ℕ). (k ∷ []) ∷ []) z) ∙ sym (inputs_more 0 n)
 
 pub inputs_length : (lo n : ℕ) → length (inputs_from lo n) ≡ n
 unfolding inputs_from

@@ -42,6 +42,7 @@ pub fn join(alloc: Global, first: &PathSum, second: &PathSum) -> Result<PathSum,
     ensures sum { IfOk result (λ s. IsJoinOf first.now second.now s) }
     ensures fits { OnOk result (JoinFits first.now second.now) }
     ensures denotes { IfOk result (λ s. (A1 A2 : List Prim) → Denotes first.now.n (path_values first.now) A1 → Denotes first.now.n (path_values second.now) A2 → Denotes first.now.n (path_values s) (A1 ++ A2)) }
+    ensures wide { IfOk result (λ s. length s.outs ≡ first.now.n) }
     ensures passed { IfErr result (λ e. IsJoinFault first.now second.now e) }
 {
     let parts = match replaced_parts(alloc, first, second) {
@@ -63,6 +64,7 @@ pub fn join_onto(alloc: Global, first: PathSum, second: &PathSum) -> Result<Path
     ensures sum { IfOk result (λ s. IsJoinOf first second.now s) }
     ensures fits { OnOk result (JoinFits first second.now) }
     ensures denotes { IfOk result (λ s. (A1 A2 : List Prim) → Denotes first.n (path_values first) A1 → Denotes first.n (path_values second.now) A2 → Denotes first.n (path_values s) (A1 ++ A2)) }
+    ensures wide { IfOk result (λ s. length s.outs ≡ first.n) }
     ensures passed { IfErr result (λ e. IsOntoFault first second.now e) }
 {
     match replaced_parts(alloc, &first, second) {
@@ -111,7 +113,8 @@ fn merged(first: PathSum, second: &PathSum, parts: Parts) -> Result<PathSum, All
     requires named { 2 * first.n + first.m + second.now.m ≤ 512 }
     requires scaled { (negsuc 1999999999 ≤ℤ (first.k +ℤ second.now.k)) × ((first.k +ℤ second.now.k) ≤ℤ pos 2000000000) }
     requires parts { IsParts first second.now parts.phase parts.outs.items }
-    ensures { IfOk result (λ s. IsJoinOf first second.now s) }
+    ensures sum { IfOk result (λ s. IsJoinOf first second.now s) }
+    ensures wide { IfOk result (λ s. length s.outs ≡ first.n) }
 {
     let PathSum {
         n,

@@ -27,6 +27,7 @@ pub fn leaf(alloc: Global, prim: &Prim, n: u32) -> Result<PathSum, AllocError>
     requires within { IsWithin n prim.now }
     ensures sum { IfOk result (λ s. IsLeafOf n prim.now s) }
     ensures denotes { IfOk result (λ s. Denotes n (path_values s) (prim.now ∷ [])) }
+    ensures wide { IfOk result (λ s. length s.outs ≡ n) }
 {
     match *prim {
         Prim::U {
@@ -51,6 +52,7 @@ pub fn identity(alloc: Global, n: u32) -> Result<PathSum, AllocError>
     requires width { (1 ≤ n) × (n ≤ 64) }
     ensures sum { IfOk result (λ s. IsIdentityOf n s) }
     ensures denotes { IfOk result (λ s. Denotes n (path_values s) []) }
+    ensures wide { IfOk result (λ s. length s.outs ≡ n) }
 {
     let outs = inputs(alloc, n)?;
     Ok(small_sum(n, 0, PhasePoly::zero(alloc), outs))
@@ -93,7 +95,7 @@ fn rotation(
 {
     let phase = rotation_phase(alloc, theta, phi, lambda, q as u16, n as u16)?;
     let mut outs = inputs(alloc, n)?;
-    outs[q as usize] = BoolPoly::var(alloc, n as u16 + 1)?;
+    outs[q as usize] = input(alloc, n as u16 + 1)?;
     Ok(small_sum(n, 2, phase, outs))
 }
 
@@ -153,9 +155,19 @@ fn inputs(alloc: Global, n: u32) -> Result<Vec<BoolPoly>, AllocError>
 {
     let mut outs = Vec::with_capacity(alloc, n as usize)?;
     for v in 0..n as u16 {
-        outs.push(BoolPoly::var(alloc, v)?)?;
+        outs.push(input(alloc, v)?)?;
     }
     Ok(outs)
+}
+
+// The polynomial of one variable, in as much memory as it takes.
+fn input(alloc: Global, v: u16) -> Result<BoolPoly, AllocError>
+    requires { v < 512 }
+    ensures { IfOk result (λ p. p ≡ (v ∷ []) ∷ []) }
+{
+    let mut monos = Vec::with_capacity(alloc, 1)?;
+    monos.push(Mono::var(v))?;
+    Ok(BoolPoly::ordered(monos))
 }
 
 // The sum with `m` path variables, at most 2, and as many for its scale.

@@ -23,8 +23,8 @@ invariant_of-result c =
       formed = (c.in_ok-add_to.ensures.form, o.polys);
     }
 
-pub returns : goal.returns
-returns c =
+pub returns-clause-sum : goal.returns-clause-sum
+returns-clause-sum c =
     let s1 = c.args.first in
     let s2 = c.args.second.now in
     let f : SFits w32 s1.k = search rules in
@@ -32,3 +32,10 @@ returns c =
     let h : SFits w32 (s1.k +ℤ s2.k) = search rules in
     joined s1 s2 _ c.args.parts.phase c.requires.qubits (open_wide s1 c.requires.first_open) refl refl (two_k s1.k s2.k f g h) c.requires.parts.phase_part c.in_ok-add_to.ensures.value
     (outputs_kept s1 s2 _ _ _ _ c.requires.qubits c.requires.first_open c.requires.second_open c.into_polys.ensures c.of.ensures c.requires.parts.outs_part c.placed-outs.ensures)
+
+pub returns-clause-wide : goal.returns-clause-wide
+returns-clause-wide c =
+    let s1 = c.args.first in
+    let s2 = c.args.second.now in
+    let o : Outputs s1.n s1.m s2.m s1.outs s2.outs c.of.result = outputs_kept s1 s2 _ _ _ _ c.requires.qubits c.requires.first_open c.requires.second_open c.into_polys.ensures c.of.ensures c.requires.parts.outs_part c.placed-outs.ensures in
+    o.wide

@@ -1,3 +1,4 @@
+use Rattle.std.proofs.Common.{ap, ◌∙◌, length}
 use Rattle.ps_join.proofs.LeafSums.{inputs_wide, inputs_below, inputs_formed, empty_below, empty_formed, identity_sum, denotes_identity}
 use Rattle.ps_join.proofs.leaves.identity.Goals as goal
 
@@ -18,3 +19,6 @@ returns-clause-sum c = identity_sum c.args.n _ _ _ c.in_ok-outs.ensures c.zero.e
 
 pub returns-clause-denotes : goal.returns-clause-denotes
 returns-clause-denotes c = denotes_identity c.args.n c.small_sum.result (identity_sum c.args.n _ _ c.small_sum.result c.in_ok-outs.ensures c.zero.ensures c.small_sum.ensures.n c.small_sum.ensures.m c.small_sum.ensures.k c.small_sum.ensures.phase c.small_sum.ensures.outs)
+
+pub returns-clause-wide : goal.returns-clause-wide
+returns-clause-wide c = ap length c.small_sum.ensures.outs ∙ inputs_wide c.args.n _ c.in_ok-outs.ensures
