@@ -11,3 +11,6 @@ mod replacing;
 pub use joins::{join, join_onto};
 pub use leaves::{identity, leaf};
 pub use onto_fault::OntoFault;
+
+#[cfg(test)]
+mod tests;
