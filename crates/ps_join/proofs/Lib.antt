@@ -1,0 +1,6 @@
+pub mod Outputs
+pub mod LeafSums
+pub mod NamedParts
+pub mod Chains
+pub mod Merging
+pub mod Only

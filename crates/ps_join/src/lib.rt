@@ -1,0 +1,16 @@
+//! The path sums of primitive gates, and path sums one after the other.
+#![tactic(auto)]
+
+pub mod joins;
+pub mod laws;
+pub mod leaves;
+mod naming;
+pub mod onto_fault;
+mod replacing;
+
+pub use joins::{join, join_onto};
+pub use leaves::{identity, leaf};
+pub use onto_fault::OntoFault;
+
+#[cfg(test)]
+mod tests;
