@@ -1,0 +1,8 @@
+//! The three rewrite steps of path sums: which step comes first, and the sum after a step.
+#![tactic(auto)]
+
+pub mod faults;
+pub mod steps;
+
+pub use faults::{ApplyFault, Refused};
+pub use steps::{Move, Step};
