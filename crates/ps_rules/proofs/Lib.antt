@@ -1,0 +1,4 @@
+pub mod Firsts
+pub mod Limits
+pub mod Splits
+pub mod Keeps
