@@ -1,5 +1,5 @@
 -- Names close up.
-use Rattle.std.proofs.Common.{◌≡◌, ℕ, zero, suc, ◌+◌, ◌-◌, ◌%◌, refl, ap, ap₂, sym, ◌∙◌, arith, ◌<◌, ◌≤◌, Bool, true, false, cond, nat_eq, nat_lt, ◌||◌, List, [], ◌∷◌, ◌++◌, length, take, get_or, ◌⊎◌, inl, inr}
+use Rattle.std.proofs.Common.{◌≡◌, ℕ, zero, suc, subst, ◌+◌, ◌-◌, ◌%◌, refl, ap, ap₂, sym, ◌∙◌, arith, ◌<◌, ◌≤◌, Bool, true, false, cond, nat_eq, nat_lt, ◌||◌, List, [], ◌∷◌, ◌++◌, length, take, get_or, ◌⊎◌, inl, inr}
 use Rattle.std.proofs.lemmas.Bool.Decides.{nat_tests}
 use Rattle.std.proofs.lemmas.List.{take_more, take_all}
 use Rattle.ps_mono.specs.Sets.{holds, stands}
@@ -10,9 +10,10 @@ use Rattle.ps_mono.proofs.Truths.{holds_all, holds_not}
 use Rattle.ps_phase.specs.declared.terms.Term.{Term}
 use Rattle.ps_phase.specs.Phases.{phase_value, phase_occurs}
 use Rattle.ps_phase.proofs.Adding.{neither, no_or}
-use Rattle.ps_bool.specs.Polys.{bool_value, occurs}
+use Rattle.ps_bool.specs.Polys.{bool_value, occurs, IsPoly}
 use Rattle.ps_phase.proofs.Values.{phase_append, one_value, phase_more, free_push}
 use Rattle.ps_sum.specs.Names.{closed, opened}
+use Rattle.ps_sum.specs.Forms.{AllPolys}
 use Rattle.ps_sum.specs.Outs.{values, outs_occur}
 use Rattle.ps_sum.proofs.Lifts.{occurs_get, bool_push, mono_free}
 
@@ -176,10 +177,15 @@ monos_free v p f out vs i ep s e w h = never (occurs w vs) refl
 pub record ClosedOuts (v : ℕ) (fs : List (List (List ℕ))) (i : ℕ) (out : List (List (List ℕ))) : Type 0 where
   pub value : (a : ℕ → Bool) → values out a ≡ values (take i fs) (λ u. a (closed v u))
   pub free : (w : ℕ) → outs_occur (opened v w) fs ≡ false → outs_occur w out ≡ false
+  pub form : AllPolys out
 
 pub outs_start : (v : ℕ) (fs out : List (List (List ℕ))) → out ≡ [] → ClosedOuts v fs 0 out
 unfolding values outs_occur
-outs_start v fs out e = record { value = λ a. ap (λ (r : List (List (List ℕ))). values r a) e; free = λ w k. ap (outs_occur w) e }
+outs_start v fs out e = record { value = λ a. ap (λ (r : List (List (List ℕ))). values r a) e; free = λ w k. ap (outs_occur w) e; form = subst AllPolys (sym e) tt }
+
+pub polys_push : (fs : List (List (List ℕ))) (g : List (List ℕ)) → AllPolys fs → IsPoly g → AllPolys (fs ++ g ∷ [])
+polys_push [] g h k = (k, tt)
+polys_push (f ∷ fs) g h k = (h.0, polys_push fs g h.1 k)
 
 values_push : (fs : List (List (List ℕ))) (f : List (List ℕ)) (a : ℕ → Bool) → values (fs ++ f ∷ []) a ≡ values fs a ++ bool_value f a ∷ []
 unfolding values
@@ -199,14 +205,15 @@ outs_get w (g ∷ fs) (suc i) f h e n = outs_get w fs i f (omega arith) e (neith
 
 pub outs_more : (v : ℕ) (fs out out' : List (List (List ℕ))) (i : ℕ) (f g : List (List ℕ)) → i < length fs → f ≡ get_or fs i f
     → ((a : ℕ → Bool) → bool_value g a ≡ bool_value f (λ u. a (closed v u))) → ((w : ℕ) → occurs (opened v w) f ≡ false → occurs w g ≡ false) → out' ≡ out ++ g ∷ []
-    → ClosedOuts v fs i out → ClosedOuts v fs (i + 1) out'
-outs_more v fs out out' i f g h ef gv gf e s = record {
+    → IsPoly g → ClosedOuts v fs i out → ClosedOuts v fs (i + 1) out'
+outs_more v fs out out' i f g h ef gv gf e gp s = record {
   value = λ a.
       let b = λ (u : ℕ). a (closed v u) in
       let t = take_more fs i f h ∙ ap (λ (r : List (List ℕ)). take i fs ++ r ∷ []) (sym ef) in
       ap (λ (r : List (List (List ℕ))). values r a) e ∙ values_push out g a ∙ ap₂ (λ (x : List Bool) (y : Bool). x ++ y ∷ []) (s.value a) (gv a)
       ∙ sym (ap (λ (r : List (List (List ℕ))). values r b) t ∙ values_push (take i fs) f b);
   free = λ w o. ap (outs_occur w) e ∙ outs_push w out g (s.free w o) (gf w (outs_get (opened v w) fs i f h ef o));
+  form = subst AllPolys (sym e) (polys_push out g s.form gp);
 }
 
 pub outs_value : (v : ℕ) (p fs out vs : List (List (List ℕ))) (i : ℕ) → fs ≡ p → length fs ≤ i → vs ≡ out → ClosedOuts v fs i out → (a : ℕ → Bool) → values vs a ≡ values p (λ u. a (closed v u))
@@ -214,6 +221,9 @@ outs_value v p fs out vs i ep h ev s a = ap (λ (r : List (List (List ℕ))). va
 
 pub outs_free : (v : ℕ) (p fs out vs : List (List (List ℕ))) (i : ℕ) → fs ≡ p → vs ≡ out → ClosedOuts v fs i out → (w : ℕ) → outs_occur (opened v w) p ≡ false → outs_occur w vs ≡ false
 outs_free v p fs out vs i ep ev s w h = ap (outs_occur w) ev ∙ s.free w (ap (outs_occur (opened v w)) ep ∙ h)
+
+pub outs_form : (v : ℕ) (fs out vs : List (List (List ℕ))) (i : ℕ) → vs ≡ out → ClosedOuts v fs i out → AllPolys vs
+outs_form v fs out vs i e s = subst AllPolys (sym e) s.form
 
 -- ---- what the sum keeps
 pub opened_above : (v w b : ℕ) → v < b → b ≤ suc w → b ≤ opened v w

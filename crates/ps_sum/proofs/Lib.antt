@@ -2,3 +2,4 @@ pub mod Lifts
 pub mod Counting
 pub mod Substitutes
 pub mod Closings
+pub mod Uniqueness

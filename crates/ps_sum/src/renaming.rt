@@ -1,8 +1,9 @@
 ghost use Rattle.std.specs.Prelude.{◌≡◌, ℕ, ◌<◌, ◌+◌, ◌%◌, Bool, false, ◌++◌, IfOk, OnOk};
 ghost use Rattle.ps_mono.specs.Sets.{holds, stands};
-ghost use Rattle.ps_bool.specs.Polys.{bool_value, occurs};
-ghost use Rattle.ps_phase.specs.Phases.{phase_value, phase_occurs};
+ghost use Rattle.ps_bool.specs.Polys.{bool_value, occurs, IsPoly};
+ghost use Rattle.ps_phase.specs.Phases.{phase_value, phase_occurs, IsPhasePoly};
 ghost use Rattle.ps_sum.specs.Names.{closed, opened};
+ghost use Rattle.ps_sum.specs.Forms.{AllPolys};
 ghost use Rattle.ps_sum.specs.Outs.{values, outs_occur};
 
 use super::outputs::Outputs;
@@ -33,6 +34,7 @@ fn closed_phase(alloc: Global, poly: &PhasePoly, v: u16) -> Result<PhasePoly, Al
     requires free { phase_occurs v poly.now ≡ false }
     ensures value { IfOk result (λ p. (a : ℕ → Bool) → phase_value p a % 4294967296 ≡ phase_value poly.now (λ u. a (closed v u)) % 4294967296) }
     ensures variables { IfOk result (λ p. (w : ℕ) → phase_occurs (opened v w) poly.now ≡ false → phase_occurs w p ≡ false) }
+    ensures form { IfOk result (λ p. IsPhasePoly p) }
 {
     let mut terms = Vec::new(alloc);
     for term in poly.terms() {
@@ -50,6 +52,7 @@ fn closed_bool(alloc: Global, poly: &BoolPoly, v: u16) -> Result<BoolPoly, Alloc
     requires free { occurs v poly.now ≡ false }
     ensures value { IfOk result (λ p. (a : ℕ → Bool) → bool_value p a ≡ bool_value poly.now (λ u. a (closed v u))) }
     ensures variables { IfOk result (λ p. (w : ℕ) → occurs (opened v w) poly.now ≡ false → occurs w p ≡ false) }
+    ensures form { IfOk result (λ p. IsPoly p) }
 {
     let mut monos = Vec::new(alloc);
     for mono in poly.monos() {
@@ -64,6 +67,7 @@ fn closed_outs(alloc: Global, outs: &Outputs, v: u16) -> Result<Outputs, AllocEr
     requires free { outs_occur v outs.now ≡ false }
     ensures value { IfOk result (λ o. (a : ℕ → Bool) → values o a ≡ values outs.now (λ u. a (closed v u))) }
     ensures variables { IfOk result (λ o. (w : ℕ) → outs_occur (opened v w) outs.now ≡ false → outs_occur w o ≡ false) }
+    ensures form { IfOk result (λ o. AllPolys o) }
 {
     let mut polys = Vec::new(alloc);
     for poly in outs.polys() {

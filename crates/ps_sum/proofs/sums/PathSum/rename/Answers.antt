@@ -14,4 +14,5 @@ invariant_of-result c = record {
   phase_below = λ v h. c.in_ok-phase.ensures.variables v (c.args.self.now.phase_below (opened (c.args.self.now.n + c.args.y) v) (opened_above (c.args.self.now.n + c.args.y) v _ (omega arith) (omega arith)));
   outs_below = λ v h. c.in_ok-outs.ensures.variables v (c.args.self.now.outs_below (opened (c.args.self.now.n + c.args.y) v) (opened_above (c.args.self.now.n + c.args.y) v _ (omega arith) (omega arith)));
   width = same_width _ _ c.args.self.now.n (λ (u : ℕ). false) _ (c.in_ok-outs.ensures.value (λ (u : ℕ). false)) c.args.self.now.width;
+  formed = (c.in_ok-phase.ensures.form, c.in_ok-outs.ensures.form);
 }
