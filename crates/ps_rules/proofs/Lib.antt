@@ -2,3 +2,4 @@ pub mod Firsts
 pub mod Limits
 pub mod Splits
 pub mod Keeps
+pub mod Only
