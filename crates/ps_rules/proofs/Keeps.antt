@@ -148,7 +148,7 @@ both_holds u v a d = by (nat_lt u v)
     by true = ap₂ (λ (x y : Bool). x && (y && true)) own other ∙ and_end (a v)
     by false = ap₂ (λ (x y : Bool). x && (y && true)) other own ∙ and_end (a v)
 
-each_weak : (v : ℕ) (R Q : Term → Type 0) (ts : List Term) → ((t : Term) → R t → Q t) → EachWith v R ts → EachWith v Q ts
+pub each_weak : (v : ℕ) (R Q : Term → Type 0) (ts : List Term) → ((t : Term) → R t → Q t) → EachWith v R ts → EachWith v Q ts
 each_weak v R Q [] f h = tt
 each_weak v R Q (t ∷ ts) f h = (λ s. f t (h.0 s), each_weak v R Q ts f h.1)
 

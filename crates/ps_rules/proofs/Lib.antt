@@ -3,3 +3,4 @@ pub mod Limits
 pub mod Splits
 pub mod Keeps
 pub mod Only
+pub mod Seeing

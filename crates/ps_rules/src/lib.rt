@@ -2,6 +2,7 @@
 #![tactic(auto)]
 
 pub mod faults;
+mod sights;
 pub mod steps;
 
 pub use faults::{ApplyFault, Refused};
