@@ -4,3 +4,4 @@ pub mod Splits
 pub mod Keeps
 pub mod Only
 pub mod Seeing
+pub mod Deciding
