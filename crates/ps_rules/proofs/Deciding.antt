@@ -1,8 +1,9 @@
 -- What is remembered of a variable decides which steps take it away.
-use Rattle.std.proofs.Common.{◌≡◌, ◌≢◌, ℕ, zero, suc, ◌+◌, ◌-◌, refl, ap, ap₂, sym, ◌∙◌, subst, arith, ◌<◌, ◌≤◌, Bool, true, false, cond, not, nat_eq, nat_lt, ◌&&◌, ◌||◌, List, [], ◌∷◌, length, ◌⊎◌, inl, inr, Less}
+use Rattle.std.proofs.Common.{◌≡◌, ◌≢◌, ℕ, zero, suc, ◌+◌, ◌-◌, refl, ap, ap₂, sym, ◌∙◌, subst, arith, ◌<◌, ◌≤◌, Bool, true, false, cond, not, nat_eq, nat_lt, ◌&&◌, ◌||◌, List, [], ◌∷◌, ◌++◌, length, take, get_or, ◌⊎◌, inl, inr, Less}
 use Rattle.std.specs.Cmp.Lexicographic.{pointwise}
 use Rattle.std.proofs.lemmas.Bool.{cases_lt}
 use Rattle.std.proofs.lemmas.Bool.Decides.{nat_tests}
+use Rattle.std.proofs.lemmas.List.{take_more, take_all}
 use Rattle.ps_mono.specs.Sets.{stands, mono_cmp, IsVarSet, Climbing, Above}
 use Rattle.ps_mono.specs.Lists.{nat_eq_true, nat_eq_same}
 use Rattle.ps_mono.proofs.Laws.{set_climbing}
@@ -16,7 +17,7 @@ use Rattle.ps_rules.specs.declared.steps.Step.{Step}
 use Rattle.ps_rules.specs.declared.steps.Step.TheVariants.{Elim, Hh, Omega}
 use Rattle.ps_rules.specs.Terms.{EachWith, IsHalf, both}
 use Rattle.ps_rules.specs.Rules.{IsInner, ElimApplies, HhApplies, OmegaApplies, Applies, first_of, second_of}
-use Rattle.ps_rules.specs.Sights.{IsQuarter, IsFine, in_pair, in_wide, Partners, IsFree, IsHalves, IsQuartered, IsSpoilt, NoneAt, FirstAt}
+use Rattle.ps_rules.specs.Sights.{IsQuarter, IsFine, in_pair, in_wide, Partners, IsFree, IsHalves, IsQuartered, IsSpoilt, IsPartner, NoneAt, FirstAt}
 use Rattle.ps_rules.proofs.Firsts.{both_first, both_second, alone_stands, each_coefficient, occurs_coefficient, elim_not_hh, elim_not_omega, hh_not_omega}
 use Rattle.ps_rules.proofs.Keeps.{each_weak}
 use Rattle.ps_rules.proofs.Seeing.{off, each_none}
@@ -170,12 +171,6 @@ free_first S y pairs wide l h = record { place = refl; applies = record { inner 
 pub quartered_first : (S : PathSum) (y : ℕ) → y < S.m → IsQuartered (S.n + y) S.outs S.phase → FirstAt S y (Omega y)
 quartered_first S y l h = record { place = refl; applies = record { inner = record { inside = l; silent = h.silent }; quarter = h.quarter; halves = h.halves }; second_least = λ u k. absurd (omega arith) }
 
--- u is a second variable for y
-pub record IsPartner (n y : ℕ) (wide : List ℕ) (u : ℕ) : Type 0 where
-  pub path : n ≤ u
-  pub apart : u ≢ n + y
-  pub lone : stands u wide ≡ false
-
 pair_occurs : (v u : ℕ) (ts : List Term) → in_pair v u ts ≡ true → phase_occurs u ts ≡ true
 unfolding in_pair phase_occurs
 pair_occurs v u [] e = e
@@ -216,52 +211,85 @@ applies_partner S y z pairs wide h a = (
 )
 
 -- ---- the least partner
--- no partner is among those that were looked at
-abbrev pub Skipped : ℕ → ℕ → List ℕ → List ℕ → List ℕ → Type 0
-Skipped n y pairs wide left = (u : ℕ) → stands u pairs ≡ true → stands u left ≡ false → IsPartner n y wide u → ⊥
+-- no partner is among the first i of the pairs
+abbrev pub Skipped : ℕ → ℕ → List ℕ → List ℕ → ℕ → Type 0
+Skipped n y pairs wide i = (u : ℕ) → stands u (take i pairs) ≡ true → IsPartner n y wide u → ⊥
 
-pub skipped_start : (n y : ℕ) (pairs wide left : List ℕ) → left ≡ pairs → Skipped n y pairs wide left
-skipped_start n y pairs wide left e u s t p = off s (ap (stands u) (sym e) ∙ t)
-
-pub skipped_more : (n y : ℕ) (pairs wide left rest : List ℕ) (w : ℕ) → left ≡ w ∷ rest → (IsPartner n y wide w → ⊥) → Skipped n y pairs wide left → Skipped n y pairs wide rest
+pub skipped_start : (n y : ℕ) (pairs wide : List ℕ) → Skipped n y pairs wide 0
 unfolding stands
-skipped_more n y pairs wide left rest w e k h u s t p = by (nat_eq u w) refl
-  where
-    by : (b : Bool) → nat_eq u w ≡ b → ⊥
-    by true f = k (subst (IsPartner n y wide) (nat_eq_true u w f) p)
-    by false f = h u s (ap (stands u) e ∙ ap₂ (λ (x y : Bool). x || y) f t) p
+skipped_start n y pairs wide u s p = off s refl
 
-above_stands : (w u : ℕ) (m : List ℕ) → Above w m → u < w → stands u m ≡ false
+stands_push : (u : ℕ) (m : List ℕ) (w : ℕ) → stands u (m ++ w ∷ []) ≡ true → (stands u m ≡ true) ⊎ (u ≡ w)
+unfolding stands
+stands_push u [] w s = by (nat_eq u w) refl s
+  where
+    by : (b : Bool) → nat_eq u w ≡ b → (b || false) ≡ true → (false ≡ true) ⊎ (u ≡ w)
+    by true e k = inr (nat_eq_true u w e)
+    by false e k = inl k
+stands_push u (x ∷ m) w s = by (nat_eq u x) s (stands_push u m w)
+  where
+    by : (b : Bool) → (b || stands u (m ++ w ∷ [])) ≡ true → (stands u (m ++ w ∷ []) ≡ true → (stands u m ≡ true) ⊎ (u ≡ w)) → ((b || stands u m) ≡ true) ⊎ (u ≡ w)
+    by true k r = inl refl
+    by false k r = r k
+
+pub skipped_more : (n y : ℕ) (pairs wide : List ℕ) (i w : ℕ) → i < length pairs → w ≡ get_or pairs i 0 → (IsPartner n y wide w → ⊥) → Skipped n y pairs wide i → Skipped n y pairs wide (i + 1)
+skipped_more n y pairs wide i w l e k h u s p = by (stands_push u (take i pairs) w (ap (stands u) (sym (take_more pairs i 0 l ∙ ap (λ (x : ℕ). take i pairs ++ x ∷ []) (sym e))) ∙ s))
+  where
+    by : ((stands u (take i pairs) ≡ true) ⊎ (u ≡ w)) → ⊥
+    by (inl t) = h u t p
+    by (inr t) = k (subst (IsPartner n y wide) t p)
+
+above_stands : (w u : ℕ) (m : List ℕ) → Above w m → u ≤ w → stands u m ≡ false
 unfolding stands
 above_stands w u [] a h = refl
 above_stands w u (x ∷ m) a h = let e : nat_eq u x ≡ false = (let k = a.0 in grind (arith, nat_tests)) in ap₂ (λ (p q : Bool). p || q) e (above_stands w u m a.1 h)
 
-first_least : (w u : ℕ) (left rest : List ℕ) → left ≡ w ∷ rest → IsVarSet left → u < w → stands u left ≡ false
-unfolding stands
-first_least w u left rest e p h =
-    let c : Climbing (w ∷ rest) = set_climbing (w ∷ rest) (subst IsVarSet e p) in
-    let k : nat_eq u w ≡ false = grind (arith, nat_tests) in
-    ap (stands u) e ∙ ap₂ (λ (p q : Bool). p || q) k (above_stands w u rest c.0 h)
+get_above : (x : ℕ) (m : List ℕ) (i : ℕ) → Above x m → i < length m → x < get_or m i 0
+get_above x [] i a h = absurd (omega arith)
+get_above x (w ∷ m) zero a h = a.0
+get_above x (w ∷ m) (suc i) a h = get_above x m i a.1 (omega arith)
 
-pub partner_first : (S : PathSum) (y w r : ℕ) (pairs wide left rest : List ℕ) → y < S.m → IsHalves (S.n + y) S.outs S.phase pairs wide → left ≡ w ∷ rest → IsVarSet left → ((u : ℕ) → stands u left ≡ true → stands u pairs ≡ true)
-    → Skipped S.n y pairs wide left → IsPartner S.n y wide w → r ≡ w - S.n → FirstAt S y (Hh y r)
+-- what is below the one at place i stands before it
+lesser_before : (m : List ℕ) (i u : ℕ) → Climbing m → i < length m → u < get_or m i 0 → stands u m ≡ true → stands u (take i m) ≡ true
 unfolding stands
-partner_first S y w r pairs wide left rest l h e v i k p er = record {
+lesser_before [] i u c h l s = absurd (off s refl)
+lesser_before (x ∷ m) zero u c h l s =
+    let e : nat_eq u x ≡ false = grind (arith, nat_tests) in
+    absurd (off s (ap₂ (λ (p q : Bool). p || q) e (above_stands x u m c.0 (omega arith))))
+lesser_before (x ∷ m) (suc i) u c h l s = by (nat_eq u x) s (λ t. lesser_before m i u c.1 (omega arith) l t)
+  where
+    by : (b : Bool) → (b || stands u m) ≡ true → (stands u m ≡ true → stands u (take i m) ≡ true) → (b || stands u (take i m)) ≡ true
+    by true k r = refl
+    by false k r = r k
+
+place_stands : (m : List ℕ) (i w : ℕ) → i < length m → w ≡ get_or m i 0 → stands w m ≡ true
+unfolding stands
+place_stands [] i w h e = absurd (omega arith)
+place_stands (x ∷ m) zero w h e = ap (λ b. b || stands w m) (ap (λ (y : ℕ). nat_eq w y) (sym e) ∙ nat_eq_same w)
+place_stands (x ∷ m) (suc i) w h e = later (nat_eq w x) (place_stands m i w (omega arith) e)
+  where
+    later : (p : Bool) {q : Bool} → q ≡ true → (p || q) ≡ true
+    later true e = refl
+    later false e = e
+
+pub partner_first : (S : PathSum) (y w i : ℕ) (pairs wide : List ℕ) → y < S.m → IsHalves (S.n + y) S.outs S.phase pairs wide → IsVarSet pairs → i < length pairs → w ≡ get_or pairs i 0
+    → Skipped S.n y pairs wide i → IsPartner S.n y wide w → FirstAt S y (Hh y (w - S.n))
+partner_first S y w i pairs wide l h v li e k p = record {
   place = refl;
-  applies = subst (HhApplies S y) (sym er) (partner_applies S y w pairs wide l h (i w (ap (stands w) e ∙ ap (λ b. b || stands w rest) (nat_eq_same w))) p);
+  applies = partner_applies S y w pairs wide l h (place_stands pairs i w li e) p;
   second_least = λ z lz a.
       let b = applies_partner S y z pairs wide h a in
       let q = p.path in
-      k (S.n + z) b.0 (first_least w (S.n + z) left rest e v (omega arith)) b.1;
+      let d : S.n + z < get_or pairs i 0 = omega arith in
+      k (S.n + z) (lesser_before pairs i (S.n + z) (set_climbing pairs v) li d b.0) b.1;
 }
 
-pub halves_none : (S : PathSum) (y : ℕ) (pairs wide left : List ℕ) → y < S.m → IsHalves (S.n + y) S.outs S.phase pairs wide → left ≡ [] → Skipped S.n y pairs wide left → NoneAt S y
-unfolding stands
-halves_none S y pairs wide left l h e k (Elim z) f a = let b = subst (ElimApplies S) f a in off h.present b.absent
-halves_none S y pairs wide left l h e k (Hh z u) f a =
+pub halves_none : (S : PathSum) (y i : ℕ) (pairs wide : List ℕ) → IsHalves (S.n + y) S.outs S.phase pairs wide → length pairs ≤ i → Skipped S.n y pairs wide i → NoneAt S y
+halves_none S y i pairs wide h li k (Elim z) f a = let b = subst (ElimApplies S) f a in off h.present b.absent
+halves_none S y i pairs wide h li k (Hh z u) f a =
     let b = applies_partner S y u pairs wide h (subst (λ x. HhApplies S x u) f a) in
-    k (S.n + u) b.0 (ap (stands (S.n + u)) e) b.1
-halves_none S y pairs wide left l h e k (Omega z) f a =
+    k (S.n + u) (ap (stands (S.n + u)) (take_all i pairs li) ∙ b.0) b.1
+halves_none S y i pairs wide h li k (Omega z) f a =
     let b = subst (OmegaApplies S) f a in
     not_half _ b.quarter (each_coefficient (S.n + y) IsHalf ((S.n + y) ∷ []) S.phase (alone_stands (S.n + y)) h.halves (quarter_some _ b.quarter))
   where

@@ -1,5 +1,5 @@
 -- What is remembered of one variable while the terms of a phase polynomial are read, and what that decides.
-use Rattle.std.specs.Prelude.{ℕ, ◌≡◌, ◌≢◌, ◌<◌, ◌+◌, ◌⊎◌, Bool, true, false, not, ◌&&◌, ◌||◌, nat_eq, List, [], ◌∷◌, length}
+use Rattle.std.specs.Prelude.{ℕ, ◌≡◌, ◌≢◌, ◌<◌, ◌≤◌, ◌+◌, ◌⊎◌, Bool, true, false, not, ◌&&◌, ◌||◌, nat_eq, List, [], ◌∷◌, length}
 use Rattle.ps_mono.specs.Sets.{stands}
 use Rattle.ps_phase.specs.declared.terms.Term.{Term}
 use Rattle.ps_phase.specs.Phases.{phase_occurs, coefficient}
@@ -83,3 +83,9 @@ pub record FirstAt (S : PathSum) (y : ℕ) (s : Step) : Type 0 where
   pub place : first_of s ≡ y
   pub applies : Applies S s
   pub second_least : (y1 : ℕ) → y1 < second_of s → Applies S (Hh y y1) → ⊥
+
+-- u is a path variable other than y, and stands in none of the terms that have not two variables
+pub record IsPartner (n y : ℕ) (wide : List ℕ) (u : ℕ) : Type 0 where
+  pub path : n ≤ u
+  pub apart : u ≢ n + y
+  pub lone : stands u wide ≡ false
