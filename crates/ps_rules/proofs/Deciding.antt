@@ -244,7 +244,7 @@ unfolding stands
 above_stands w u [] a h = refl
 above_stands w u (x ∷ m) a h = let e : nat_eq u x ≡ false = (let k = a.0 in grind (arith, nat_tests)) in ap₂ (λ (p q : Bool). p || q) e (above_stands w u m a.1 h)
 
-get_above : (x : ℕ) (m : List ℕ) (i : ℕ) → Above x m → i < length m → x < get_or m i 0
+pub get_above : (x : ℕ) (m : List ℕ) (i : ℕ) → Above x m → i < length m → x < get_or m i 0
 get_above x [] i a h = absurd (omega arith)
 get_above x (w ∷ m) zero a h = a.0
 get_above x (w ∷ m) (suc i) a h = get_above x m i a.1 (omega arith)
@@ -262,7 +262,7 @@ lesser_before (x ∷ m) (suc i) u c h l s = by (nat_eq u x) s (λ t. lesser_befo
     by true k r = refl
     by false k r = r k
 
-place_stands : (m : List ℕ) (i w : ℕ) → i < length m → w ≡ get_or m i 0 → stands w m ≡ true
+pub place_stands : (m : List ℕ) (i w : ℕ) → i < length m → w ≡ get_or m i 0 → stands w m ≡ true
 unfolding stands
 place_stands [] i w h e = absurd (omega arith)
 place_stands (x ∷ m) zero w h e = ap (λ b. b || stands w m) (ap (λ (y : ℕ). nat_eq w y) (sym e) ∙ nat_eq_same w)

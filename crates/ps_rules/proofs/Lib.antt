@@ -5,3 +5,5 @@ pub mod Keeps
 pub mod Only
 pub mod Seeing
 pub mod Deciding
+pub mod Windows
+pub mod Earliest

@@ -72,7 +72,7 @@ unfolding in_wide
 in_wide_push v u [] t = or_none _
 in_wide_push v u (x ∷ ts) t = ap (λ b. ((stands v x.mono && not (nat_eq (length x.mono) 2)) && stands u x.mono) || b) (in_wide_push v u ts t) ∙ or_move _ (in_wide v u ts) _
 
-last_term : (ts : List Term) (t : Term) → IsPhasePoly (ts ++ t ∷ []) → IsTerm t
+pub last_term : (ts : List Term) (t : Term) → IsPhasePoly (ts ++ t ∷ []) → IsTerm t
 last_term [] t p = p.0
 last_term (x ∷ ts) t p = last_term ts t p.2
 
@@ -84,7 +84,7 @@ last_coefficient : (m : List ℕ) (ts : List Term) (t : Term) → IsPhasePoly (t
 last_coefficient m ts t p e = coefficient_at m (ts ++ t ∷ []) (length ts) t p (omega (arith, length-append ts (t ∷ []))) (sym (get_last ts t t)) e
 
 -- a coefficient that is there stays
-kept_coefficient : (m : List ℕ) (ts us : List Term) → coefficient m ts ≢ 0 → coefficient m (ts ++ us) ≡ coefficient m ts
+pub kept_coefficient : (m : List ℕ) (ts us : List Term) → coefficient m ts ≢ 0 → coefficient m (ts ++ us) ≡ coefficient m ts
 unfolding coefficient
 kept_coefficient m [] us n = absurd (n refl)
 kept_coefficient m (t ∷ ts) us n = by (pointwise nat_eq m t.mono) n (kept_coefficient m ts us)

@@ -1,5 +1,5 @@
 -- What is remembered of one variable while the terms of a phase polynomial are read, and what that decides.
-use Rattle.std.specs.Prelude.{ℕ, ◌≡◌, ◌≢◌, ◌<◌, ◌≤◌, ◌+◌, ◌⊎◌, Bool, true, false, not, ◌&&◌, ◌||◌, nat_eq, List, [], ◌∷◌, length}
+use Rattle.std.specs.Prelude.{ℕ, ◌≡◌, ◌≢◌, ◌<◌, ◌≤◌, ◌+◌, ◌⊎◌, Bool, true, false, not, ◌&&◌, ◌||◌, nat_eq, List, [], ◌∷◌, length, get_or}
 use Rattle.ps_mono.specs.Sets.{stands}
 use Rattle.ps_phase.specs.declared.terms.Term.{Term}
 use Rattle.ps_phase.specs.Phases.{phase_occurs, coefficient}
@@ -74,6 +74,14 @@ SeenAs Other v outs ts pairs wide = IsSpoilt v outs ts
 abbrev pub Seen : ℕ → List (List (List ℕ)) → List Term → Sight → Type 0
 Seen v outs ts s = SeenAs s.kind v outs ts s.pairs s.wide
 
+-- s is what is to be remembered before any term, of a variable that stands in an output where b is true
+abbrev pub IsFresh : Bool → Sight → Type 0
+IsFresh b s = (v : ℕ) (outs : List (List (List ℕ))) → b ≡ outs_occur v outs → Seen v outs [] s
+
+-- each of the variables from base on is remembered so that R
+abbrev pub EachSight : (ℕ → Sight → Type 0) → ℕ → List Sight → Type 0
+EachSight R base sights = (k : ℕ) (d : Sight) → k < length sights → R (base + k) (get_or sights k d)
+
 -- no step takes path variable y away
 abbrev pub NoneAt : PathSum → ℕ → Type 0
 NoneAt S y = (t : Step) → first_of t ≡ y → Applies S t → ⊥
@@ -89,3 +97,13 @@ pub record IsPartner (n y : ℕ) (wide : List ℕ) (u : ℕ) : Type 0 where
   pub path : n ≤ u
   pub apart : u ≢ n + y
   pub lone : stands u wide ≡ false
+
+-- no step takes one of the path variables from low up to high away
+abbrev pub NoneFrom : PathSum → ℕ → ℕ → Type 0
+NoneFrom S low high = (y : ℕ) → low ≤ y → y < high → NoneAt S y
+
+-- s is the first step at a path variable from low on
+pub record FirstFrom (S : PathSum) (low : ℕ) (s : Step) : Type 0 where
+  pub above : low ≤ first_of s
+  pub first : FirstAt S (first_of s) s
+  pub none : NoneFrom S low (first_of s)

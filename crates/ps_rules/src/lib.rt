@@ -3,8 +3,11 @@
 
 mod choosing;
 pub mod faults;
+pub mod finding;
+mod looking;
 mod sights;
 pub mod steps;
 
 pub use faults::{ApplyFault, Refused};
+pub use finding::find;
 pub use steps::{Move, Step};

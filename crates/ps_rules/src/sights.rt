@@ -3,7 +3,7 @@ ghost use Rattle.ps_mono.specs.Sets.{stands};
 ghost use Rattle.ps_phase.specs.declared.terms.Term.{Term};
 ghost use Rattle.ps_phase.specs.Phases.{IsPhasePoly};
 ghost use Rattle.ps_sum.specs.Outs.{outs_occur};
-ghost use Rattle.ps_rules.specs.Sights.{Seen, IsQuarter, IsQuartered, AllHalves};
+ghost use Rattle.ps_rules.specs.Sights.{Seen, IsFresh, IsQuarter, IsQuartered, AllHalves};
 
 use ps_mono::Mono;
 use ps_phase::Term;
@@ -39,7 +39,7 @@ pub struct Sight {
 
 // No term was read; the variable stands in an output, or in none.
 pub fn unseen(spoken: bool) -> Sight
-    ensures { (v : ℕ) (outs : List (List (List ℕ))) → spoken ≡ outs_occur v outs → Seen v outs [] result }
+    ensures { IsFresh spoken result }
 {
     Sight {
         kind: if spoken { Kind::Other } else { Kind::Free },
