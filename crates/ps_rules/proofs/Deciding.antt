@@ -15,9 +15,11 @@ use Rattle.ps_sum.specs.declared.sums.PathSum.{PathSum}
 use Rattle.ps_sum.specs.Outs.{outs_occur}
 use Rattle.ps_rules.specs.declared.steps.Step.{Step}
 use Rattle.ps_rules.specs.declared.steps.Step.TheVariants.{Elim, Hh, Omega}
+use Rattle.ps_rules.specs.declared.sights.Kind.{Kind}
+use Rattle.ps_rules.specs.declared.sights.Kind.TheVariants.{Free, Halves, Quarter, Other}
 use Rattle.ps_rules.specs.Terms.{EachWith, IsHalf, both}
 use Rattle.ps_rules.specs.Rules.{IsInner, ElimApplies, HhApplies, OmegaApplies, Applies, first_of, second_of}
-use Rattle.ps_rules.specs.Sights.{IsQuarter, IsFine, in_pair, in_wide, Partners, IsFree, IsHalves, IsQuartered, IsSpoilt, IsPartner, NoneAt, FirstAt}
+use Rattle.ps_rules.specs.Sights.{IsQuarter, IsFine, in_pair, in_wide, Partners, IsFree, IsHalves, IsQuartered, IsSpoilt, SeenAs, IsPartner, NoneAt, FirstAt}
 use Rattle.ps_rules.proofs.Firsts.{both_first, both_second, alone_stands, each_coefficient, occurs_coefficient, elim_not_hh, elim_not_omega, hh_not_omega}
 use Rattle.ps_rules.proofs.Keeps.{each_weak}
 use Rattle.ps_rules.proofs.Seeing.{off, each_none}
@@ -296,3 +298,42 @@ halves_none S y i pairs wide h li k (Omega z) f a =
     not_half : (c : ℕ) → IsQuarter c → c ≢ 2147483648
     not_half c (inl e) = λ z. omega arith
     not_half c (inr e) = λ z. omega arith
+
+-- ---- which kind a step wants
+no_quarter : (S : PathSum) (y : ℕ) (pairs wide : List ℕ) → IsHalves (S.n + y) S.outs S.phase pairs wide → OmegaApplies S y → ⊥
+no_quarter S y pairs wide h a = not_half _ a.quarter (each_coefficient (S.n + y) IsHalf ((S.n + y) ∷ []) S.phase (alone_stands (S.n + y)) h.halves (quarter_some _ a.quarter))
+  where
+    not_half : (c : ℕ) → IsQuarter c → c ≢ 2147483648
+    not_half c (inl e) = λ z. omega arith
+    not_half c (inr e) = λ z. omega arith
+
+pub elim_kind : (S : PathSum) (y : ℕ) (k : Kind) (pairs wide : List ℕ) → y < S.m → SeenAs k (S.n + y) S.outs S.phase pairs wide → ElimApplies S y → k ≡ Free
+elim_kind S y Free pairs wide l h a = refl
+elim_kind S y Halves pairs wide l h a = absurd (off h.present a.absent)
+elim_kind S y Quarter pairs wide l h a = absurd (elim_not_omega S y a (quartered_first S y l h).applies)
+elim_kind S y Other pairs wide l h a = absurd (spoilt_none S y h (Elim y) refl a)
+
+pub omega_kind : (S : PathSum) (y : ℕ) (k : Kind) (pairs wide : List ℕ) → y < S.m → SeenAs k (S.n + y) S.outs S.phase pairs wide → OmegaApplies S y → k ≡ Quarter
+omega_kind S y Free pairs wide l h a = absurd (elim_not_omega S y (free_first S y pairs wide l h).applies a)
+omega_kind S y Halves pairs wide l h a = absurd (no_quarter S y pairs wide h a)
+omega_kind S y Quarter pairs wide l h a = refl
+omega_kind S y Other pairs wide l h a = absurd (spoilt_none S y h (Omega y) refl a)
+
+pub hh_kind : (S : PathSum) (y z : ℕ) (k : Kind) (pairs wide : List ℕ) → y < S.m → SeenAs k (S.n + y) S.outs S.phase pairs wide → HhApplies S y z → k ≡ Halves
+hh_kind S y z Free pairs wide l h a = absurd (elim_not_hh S y z (free_first S y pairs wide l h).applies a)
+hh_kind S y z Halves pairs wide l h a = refl
+hh_kind S y z Quarter pairs wide l h a = absurd (hh_not_omega S y z a (quartered_first S y l h).applies)
+hh_kind S y z Other pairs wide l h a = absurd (spoilt_none S y h (Hh y z) refl a)
+
+-- an answer that is false
+pub refused : (P : Type 0) → (P → ⊥) → (false ≡ true → P) × (P → false ≡ true)
+refused P n = (λ e. absurd (off e refl), λ p. absurd (n p))
+
+pub accepted : (P : Type 0) → P → (true ≡ true → P) × (P → true ≡ true)
+accepted P p = (λ e. p, λ q. refl)
+
+pub hh_answer : (S : PathSum) (y z : ℕ) (r : Bool) (pairs wide : List ℕ) → y < S.m → IsHalves (S.n + y) S.outs S.phase pairs wide → ((r ≡ true → (stands (S.n + z) pairs ≡ true) × IsPartner S.n y wide (S.n + z)) × ((stands (S.n + z) pairs ≡ true) × IsPartner S.n y wide (S.n + z) → r ≡ true))
+    → (r ≡ true → HhApplies S y z) × (HhApplies S y z → r ≡ true)
+hh_answer S y z r pairs wide l h d =
+    let back : S.n + z - S.n ≡ z = omega arith in
+    (λ e. let b = d.0 e in subst (λ x. HhApplies S y x) back (partner_applies S y (S.n + z) pairs wide l h b.0 b.1), λ a. d.1 (applies_partner S y z pairs wide h a))

@@ -1,5 +1,5 @@
 -- Sights of many variables at once.
-use Rattle.std.proofs.Common.{◌≡◌, ◌≢◌, ℕ, zero, suc, ◌+◌, ◌-◌, refl, ap, ap₂, sym, ◌∙◌, subst, arith, ◌<◌, ◌≤◌, Bool, true, false, cond, not, nat_eq, ◌&&◌, ◌||◌, List, [], ◌∷◌, ◌++◌, length, take, set, get_or, ◌⊎◌, inl, inr, Less}
+use Rattle.std.proofs.Common.{◌≡◌, ◌≢◌, ℕ, zero, suc, ◌+◌, ◌-◌, refl, ap, ap₂, sym, ◌∙◌, subst, arith, ◌<◌, ◌≤◌, Bool, true, false, cond, not, nat_eq, ◌&&◌, ◌||◌, List, [], ◌∷◌, ◌++◌, length, take, drop, drop-cons, add-one, drop_of_length-le, set, get_or, ◌⊎◌, inl, inr, Less}
 use Rattle.std.proofs.lemmas.Bool.{cases_lt, cases_eq}
 use Rattle.std.proofs.lemmas.Bool.Decides.{nat_tests}
 use Rattle.std.proofs.lemmas.List.{take_more, take_all, get_or-set_same, get_or-set_other}
@@ -258,3 +258,28 @@ terms_more outs ts base i t xs ys p l e f h = subst (λ (r : List Term). EachSig
 
 pub terms_end : (outs : List (List (List ℕ))) (g ts : List Term) (base i : ℕ) (xs : List Sight) → ts ≡ g → length ts ≤ i → EachSight (λ v s. Seen v outs (take i ts) s) base xs → EachSight (λ v s. Seen v outs g s) base xs
 terms_end outs g ts base i xs e l h = subst (λ (r : List Term). EachSight (λ v s. Seen v outs r s) base xs) (take_all i ts l ∙ e) h
+
+-- ---- one variable alone
+pub sight_more : (v : ℕ) (outs : List (List (List ℕ))) (ts : List Term) (i : ℕ) (t : Term) (old new next : Sight) → IsPhasePoly ts → i < length ts → t ≡ get_or ts i t → stands v t.mono ≡ true → new ≡ next
+    → ((w : ℕ) (os : List (List (List ℕ))) (rs : List Term) → IsPhasePoly (rs ++ t ∷ []) → stands w t.mono ≡ true → Seen w os rs old → Seen w os (rs ++ t ∷ []) next) → Seen v outs (take i ts) old → Seen v outs (take (i + 1) ts) new
+sight_more v outs ts i t old new next p l e s q f h =
+    subst (λ (r : List Term). Seen v outs r new) (sym (more_is ts i t l e)) (subst (Seen v outs (take i ts ++ t ∷ [])) (sym q) (f v outs (take i ts) (last_poly ts i t p l e) s h))
+
+pub sight_skip : (v : ℕ) (outs : List (List (List ℕ))) (ts : List Term) (i : ℕ) (t : Term) (old new : Sight) → i < length ts → t ≡ get_or ts i t → stands v t.mono ≡ false → new ≡ old → Seen v outs (take i ts) old → Seen v outs (take (i + 1) ts) new
+sight_skip v outs ts i t old new l e n q h =
+    subst (λ (r : List Term). Seen v outs r new) (sym (more_is ts i t l e)) (subst (Seen v outs (take i ts ++ t ∷ [])) (sym q) (seen_skip v outs (take i ts) t old n h))
+
+-- ---- whether a variable stands in an output
+outs_step : (v : ℕ) (fs : List (List (List ℕ))) (i : ℕ) (d : List (List ℕ)) → i < length fs → outs_occur v (drop i fs) ≡ (occurs v (get_or fs i d) || outs_occur v (drop (i + 1) fs))
+unfolding outs_occur
+outs_step v fs i d h = rw (add-one, drop-cons fs i d) refl
+
+pub spoken_here : (v : ℕ) (fs : List (List (List ℕ))) (i : ℕ) (f : List (List ℕ)) (r : Bool) → i < length fs → f ≡ get_or fs i f → r ≡ occurs v f → r ≡ true → outs_occur v fs ≡ outs_occur v (drop i fs) → true ≡ outs_occur v fs
+spoken_here v fs i f r l e er t k = sym (k ∙ outs_step v fs i f l ∙ ap (λ b. b || outs_occur v (drop (i + 1) fs)) (ap (occurs v) (sym e) ∙ sym er ∙ t))
+
+pub spoken_next : (v : ℕ) (fs : List (List (List ℕ))) (i : ℕ) (f : List (List ℕ)) (r : Bool) → i < length fs → f ≡ get_or fs i f → r ≡ occurs v f → r ≡ false → outs_occur v fs ≡ outs_occur v (drop i fs) → outs_occur v fs ≡ outs_occur v (drop (i + 1) fs)
+spoken_next v fs i f r l e er t k = k ∙ outs_step v fs i f l ∙ ap (λ b. b || outs_occur v (drop (i + 1) fs)) (ap (occurs v) (sym e) ∙ sym er ∙ t)
+
+pub spoken_end : (v : ℕ) (fs : List (List (List ℕ))) (i : ℕ) → length fs ≤ i → outs_occur v fs ≡ outs_occur v (drop i fs) → false ≡ outs_occur v fs
+unfolding outs_occur
+spoken_end v fs i l k = sym (k ∙ ap (outs_occur v) (drop_of_length-le fs l))

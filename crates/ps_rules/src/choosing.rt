@@ -43,7 +43,7 @@ fn least_partner(sum: &PathSum, y: u16, sight: &Sight) -> Option<u16>
 
 // Whether `u` is a path variable other than `y`, and stands in none of the terms that have not two
 // variables.
-fn is_partner(n: u16, y: u16, wide: &Mono, u: u16) -> bool
+pub fn is_partner(n: u16, y: u16, wide: &Mono, u: u16) -> bool
     requires inside { n + y < 512 }
     requires small { u < 512 }
     ensures { IsTrue result ↔ IsPartner n y wide.now u }

@@ -1,6 +1,7 @@
 //! The three rewrite steps of path sums: which step comes first, and the sum after a step.
 #![tactic(auto)]
 
+mod checking;
 mod choosing;
 pub mod faults;
 pub mod finding;
