@@ -8,7 +8,7 @@ use Rattle.ps_phase.specs.declared.terms.Term.{Term}
 use Rattle.ps_phase.specs.Phases.{phase_value, phase_occurs, IsPhasePoly, SameTurns}
 use Rattle.ps_phase.proofs.Unique.{same_terms}
 use Rattle.ps_phase.proofs.Values.{phase_agree}
-use Rattle.ps_prim.specs.declared.prims.Prim.{Prim}
+use Rattle.ps_prim.specs.declared.prims.Primitive.{Primitive as Prim}
 use Rattle.ps_prim.specs.Amplitudes.{Truths, bit}
 use Rattle.ps_prim.specs.Maps.{SameMap, DiffersAt}
 use Rattle.pathsum.specs.declared.answer.Answer.{Answer}

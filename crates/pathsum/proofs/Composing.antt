@@ -13,8 +13,8 @@ use Rattle.ps_bool.specs.Polys.{bool_value, occurs, IsPoly}
 use Rattle.ps_phase.specs.declared.terms.Term.{Term}
 use Rattle.ps_phase.specs.Phases.{phase_value, phase_occurs, IsPhasePoly}
 use Rattle.ps_phase.proofs.Values.{phase_append}
-use Rattle.ps_prim.specs.declared.prims.Prim.{Prim}
-use Rattle.ps_prim.specs.declared.prims.Prim.TheVariants.{U, Cx}
+use Rattle.ps_prim.specs.declared.prims.Primitive.{Primitive as Prim}
+use Rattle.ps_prim.specs.declared.prims.Primitive.TheVariants.{U, Cx}
 use Rattle.ps_prim.specs.Amplitudes.{Truths, bit, exchanged, flipped}
 use Rattle.ps_prim.proofs.Bits.{length-exchanged}
 use Rattle.pathsum.specs.Composed.{outputs_of, turn_of, IsPolyOf, IsPhaseOf, IsComposed, IsPartial, Exchanged, IsPlainPrim}

@@ -5,8 +5,8 @@ use Rattle.std.proofs.lemmas.List.{get_or_default, take_all}
 use Rattle.ps_bool.specs.Polys.{bool_value, occurs, IsPoly}
 use Rattle.ps_bool.proofs.Unique.{one_form, bool_value-agree}
 use Rattle.ps_phase.specs.declared.terms.Term.{Term}
-use Rattle.ps_prim.specs.declared.prims.Prim.{Prim}
-use Rattle.ps_prim.specs.declared.prims.Prim.TheVariants.{U, Cx}
+use Rattle.ps_prim.specs.declared.prims.Primitive.{Primitive as Prim}
+use Rattle.ps_prim.specs.declared.prims.Primitive.TheVariants.{U, Cx}
 use Rattle.ps_prim.specs.Amplitudes.{Truths, bit}
 use Rattle.ps_prim.specs.Maps.{IsWithin}
 use Rattle.ps_sum.specs.Counts.{raw_term}

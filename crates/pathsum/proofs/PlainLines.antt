@@ -3,8 +3,8 @@ use Rattle.std.proofs.Common.{◌≡◌, ◌≢◌, ℕ, ◌≤◌, arith, List,
 use Rattle.std.specs.Prelude.{codes}
 use Rattle.std.specs.Option.{MatchOption}
 use Rattle.std.proofs.lemmas.List.{append_cancel_left}
-use Rattle.ps_prim.specs.declared.prims.Prim.{Prim}
-use Rattle.ps_prim.specs.declared.prims.Prim.TheVariants.{U, Cx}
+use Rattle.ps_prim.specs.declared.prims.Primitive.{Primitive as Prim}
+use Rattle.ps_prim.specs.declared.prims.Primitive.TheVariants.{U, Cx}
 use Rattle.pathsum.specs.Plain.{SpellsAngle, SpellsFlip, SpellsTurn, SpellsLine, SpellsLines}
 use Rattle.pathsum.specs.Readings.{Exactly, Nowhere, Before, SpellsBelow, SpellsCx, SpellsU, NoLine, ReadsLines}
 

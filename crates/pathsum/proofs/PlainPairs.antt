@@ -4,8 +4,8 @@ use Rattle.std.specs.Prelude.{codes, Bool, ◌==◌}
 use Rattle.std.specs.Option.{MatchOption}
 use Rattle.std.proofs.lemmas.Bool.Decides.{Decides-eqb}
 use Rattle.std.proofs.lemmas.List.{append_cancel_left}
-use Rattle.ps_prim.specs.declared.prims.Prim.{Prim}
-use Rattle.ps_prim.specs.declared.prims.Prim.TheVariants.{U, Cx}
+use Rattle.ps_prim.specs.declared.prims.Primitive.{Primitive as Prim}
+use Rattle.ps_prim.specs.declared.prims.Primitive.TheVariants.{U, Cx}
 use Rattle.ps_prim.specs.Maps.{AllWithin}
 use Rattle.pathsum.specs.Plain.{SpellsLines, SpellsText, SpellsPair, IsSeparator, plain, returned, AllPlain, IsOnePair, IsNoPair, IsFit}
 use Rattle.pathsum.specs.Readings.{Exactly, Nowhere, Before, SpellsBelow, ReadsLines, SpellsHead, SpellsMiddle}

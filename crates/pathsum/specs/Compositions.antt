@@ -1,6 +1,6 @@
 -- What composing a plain list of prims gives.
 use Rattle.std.specs.Prelude.{ℕ, ◌≡◌, List}
-use Rattle.ps_prim.specs.declared.prims.Prim.{Prim}
+use Rattle.ps_prim.specs.declared.prims.Primitive.{Primitive as Prim}
 use Rattle.pathsum.specs.declared.compose.Composed.{Composed}
 use Rattle.pathsum.specs.declared.compose.Composed.TheVariants.{Sum, Passed}
 use Rattle.ps_prim.specs.Maps.{AllWithin}

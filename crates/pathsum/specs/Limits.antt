@@ -1,7 +1,7 @@
 -- How many terms the phases of a plain list of prims make.
 use Rattle.std.specs.Prelude.{ℕ, ◌≡◌, ◌+◌, ◌*◌, ◌%◌, ◌<◌, ◌≤◌, min, List, length, get_or, take}
-use Rattle.ps_prim.specs.declared.prims.Prim.{Prim}
-use Rattle.ps_prim.specs.declared.prims.Prim.TheVariants.{U, Cx}
+use Rattle.ps_prim.specs.declared.prims.Primitive.{Primitive as Prim}
+use Rattle.ps_prim.specs.declared.prims.Primitive.TheVariants.{U, Cx}
 use Rattle.ps_prim.specs.Amplitudes.{bit}
 use Rattle.ps_sum.specs.Counts.{raw_term}
 use Rattle.pathsum.specs.Composed.{outputs_of, IsPolyOf}

@@ -2,8 +2,8 @@
 use Rattle.std.specs.Prelude.{◌≡◌, ◌≢◌, ℕ, ◌+◌, ◌-◌, ◌*◌, ◌/◌, ◌%◌, ◌^◌, ◌<◌, ◌≤◌, Bool, true, ◌&&◌, nat_le, List, [], ◌∷◌, ◌++◌, length, codes}
 use Rattle.std.specs.List.{list_all}
 use Rattle.std.specs.Int.{is_power_of_two}
-use Rattle.ps_prim.specs.declared.prims.Prim.{Prim}
-use Rattle.ps_prim.specs.declared.prims.Prim.TheVariants.{U, Cx}
+use Rattle.ps_prim.specs.declared.prims.Primitive.{Primitive as Prim}
+use Rattle.ps_prim.specs.declared.prims.Primitive.TheVariants.{U, Cx}
 use Rattle.ps_prim.specs.Maps.{AllWithin}
 
 -- the digits 0 to 9

@@ -1,8 +1,8 @@
 -- What the reader of one thing answers, on the bytes from its place on.
 use Rattle.std.specs.Prelude.{◌≡◌, ◌≢◌, ℕ, ◌+◌, ◌-◌, ◌*◌, ◌%◌, ◌<◌, ◌≤◌, ◌^◌, true, false, List, [], ◌∷◌, ◌++◌, length, codes, Option, Some, None}
 use Rattle.std.specs.List.{list_all}
-use Rattle.ps_prim.specs.declared.prims.Prim.{Prim}
-use Rattle.ps_prim.specs.declared.prims.Prim.TheVariants.{U, Cx}
+use Rattle.ps_prim.specs.declared.prims.Primitive.{Primitive as Prim}
+use Rattle.ps_prim.specs.declared.prims.Primitive.TheVariants.{U, Cx}
 use Rattle.pathsum.specs.Plain.{is_digit, IsNumeral, value_from, SpellsNumber, SpellsMultiple, SpellsFlip, SpellsTurn, SpellsLine, SpellsLines, IsSeparator}
 
 -- some front of the bytes spells v, and nothing else can be read there

@@ -2,7 +2,7 @@
 use Rattle.std.specs.Prelude.{ℕ, ◌≡◌, ◌+◌, ◌-◌, ◌%◌, ◌<◌, ◌≤◌, ◌⊎◌, Bool, List, [], ◌∷◌}
 use Rattle.ps_mono.specs.Truth.{differ}
 use Rattle.ps_phase.specs.declared.terms.Term.{Term}
-use Rattle.ps_prim.specs.declared.prims.Prim.{Prim}
+use Rattle.ps_prim.specs.declared.prims.Primitive.{Primitive as Prim}
 use Rattle.ps_prim.specs.Amplitudes.{Truths, bit}
 use Rattle.ps_prim.specs.Maps.{SameMap, DiffersAt}
 use Rattle.pathsum.specs.declared.answer.Answer.{Answer}

@@ -1,5 +1,5 @@
 ghost use Rattle.std.specs.Prelude.{◌≡◌, ℕ, ◌<◌, ◌≤◌, ◌++◌, ◌∷◌, ◌+◌, ◌*◌, ◌%◌, [], List, Bool, false, length, vec_len, IfOk, OnOk, set, get_or};
-ghost use Rattle.ps_prim.specs.declared.prims.Prim.{Prim};
+ghost use Rattle.ps_prim.specs.declared.prims.Primitive.{Primitive as Prim};
 ghost use Rattle.ps_bool.specs.Polys.{bool_value, occurs};
 ghost use Rattle.ps_phase.specs.Phases.{phase_value, phase_occurs};
 ghost use Rattle.ps_mono.specs.Truth.{times};

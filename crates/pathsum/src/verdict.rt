@@ -1,5 +1,5 @@
 ghost use Rattle.std.specs.Prelude.{◌≡◌, ℕ, ◌<◌, ◌≤◌, ◌+◌, ◌-◌, ◌%◌, List, Bool, [], ◌∷◌, length, get_or, IfOk, MatchOption};
-ghost use Rattle.ps_prim.specs.declared.prims.Prim.{Prim};
+ghost use Rattle.ps_prim.specs.declared.prims.Primitive.{Primitive as Prim};
 ghost use Rattle.ps_prim.specs.Maps.{AllWithin};
 ghost use Rattle.pathsum.specs.Composed.{IsComposed};
 ghost use Rattle.pathsum.specs.Compositions.{IsComposition, IsPlainWithin};

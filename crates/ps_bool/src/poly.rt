@@ -129,6 +129,24 @@ impl BoolPoly {
         })
     }
 
+    /// The polynomial of these monomials, which are in its one form already: in order, and none
+    /// twice. Takes no memory.
+    pub fn ordered(monos: Vec<Mono>) -> BoolPoly
+        requires { IsPoly monos.items }
+        ensures { result ≡ monos.items }
+    {
+        BoolPoly { monos }
+    }
+
+    /// The monomials in order, given away. Takes no memory.
+    pub fn into_monos(self) -> Vec<Mono>
+        ensures value { result.items ≡ self }
+        ensures form { IsPoly result.items }
+    {
+        let BoolPoly { monos } = self;
+        monos
+    }
+
     /// How many monomials the polynomial has.
     pub fn count(&self) -> u64
         ensures { result ≡ length self.now }

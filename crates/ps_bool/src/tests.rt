@@ -45,5 +45,6 @@ fn products(rt: HostRuntime) -> Result<(), Fail> {
     assert!(rt; first.xor(&second)?.linear_in(1));
     let twice = vec![in alloc; Mono::var(1), Mono::one(), Mono::var(1)]?;
     assert!(rt; BoolPoly::sum_of(twice).same(&one));
+    assert!(rt; BoolPoly::ordered(product.copy()?.into_monos()).same(&expected));
     Ok(())
 }

@@ -140,6 +140,24 @@ impl PhasePoly {
         Ok(PhasePoly { terms })
     }
 
+    /// The polynomial of these terms, which are in its one form already: no monomial twice, in order,
+    /// and no phase is none. Takes no memory.
+    pub fn ordered(terms: Vec<Term>) -> PhasePoly
+        requires { IsPhasePoly terms.items }
+        ensures { result ≡ terms.items }
+    {
+        PhasePoly { terms }
+    }
+
+    /// The terms in order, given away. Takes no memory.
+    pub fn into_terms(self) -> Vec<Term>
+        ensures value { result.items ≡ self }
+        ensures form { IsPhasePoly result.items }
+    {
+        let PhasePoly { terms } = self;
+        terms
+    }
+
     /// How many terms.
     pub fn count(&self) -> u64
         ensures { result ≡ length self.now }

@@ -52,6 +52,7 @@ fn looks(rt: HostRuntime) -> Result<(), Fail> {
     assert_eq!(rt; sum.copy()?.eval(&at).units(), 1 << 31);
     at.set(1, true);
     assert_eq!(rt; sum.eval(&at).units(), 3 << 30);
+    assert!(rt; PhasePoly::ordered(sum.copy()?.into_terms()).same(&sum));
     sum.add_to(&turn(alloc, &first, 1 << 31)?)?;
     assert_eq!(rt; sum.count(), 1);
     Ok(())

@@ -1,7 +1,7 @@
 -- Lists of prims, one after the other.
 use Rattle.std.proofs.Common.{◌≡◌, ◌+◌, refl, ap, arith, List, [], ◌∷◌, ◌++◌}
-use Rattle.ps_prim.specs.declared.prims.Prim.{Prim}
-use Rattle.ps_prim.specs.declared.prims.Prim.TheVariants.{U, Cx}
+use Rattle.ps_prim.specs.declared.prims.Primitive.{Primitive as Prim}
+use Rattle.ps_prim.specs.declared.prims.Primitive.TheVariants.{U, Cx}
 use Rattle.ps_prim.specs.AmplitudeLaws.{AmplitudeEmpty, AmplitudeLast, AmplitudeAppend}
 use Rattle.ps_prim.specs.Amplitudes.{Truths, Column, act, run, start, amplitude, turns}
 

@@ -5,8 +5,8 @@ use Rattle.std.proofs.lemmas.Int.{ints}
 use Rattle.ps_ring.specs.Numbers.{Number, IsNumber, one, when}
 use Rattle.ps_ring.proofs.Turned.{one_number, turned_number}
 use Rattle.ps_ring.proofs.Whens.{when-neg}
-use Rattle.ps_prim.specs.declared.prims.Prim.{Prim}
-use Rattle.ps_prim.specs.declared.prims.Prim.TheVariants.{U, Cx}
+use Rattle.ps_prim.specs.declared.prims.Primitive.{Primitive as Prim}
+use Rattle.ps_prim.specs.declared.prims.Primitive.TheVariants.{U, Cx}
 use Rattle.ps_prim.specs.Amplitudes.{Truths, Column, bit, same_bits, first_phase, second_phase, entry, exchanged, act, run, start, amplitude}
 
 pub entry_number : (t f l : ℤ) (a b : Bool) (c : Number) → IsNumber c → IsNumber (entry t f l a b c)

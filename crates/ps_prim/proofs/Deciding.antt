@@ -5,7 +5,7 @@ use Rattle.std.proofs.lemmas.Int.{ints}
 use Rattle.ps_ring.specs.Inner.{window, inner}
 use Rattle.ps_ring.specs.Sums.{total}
 use Rattle.ps_ring.proofs.Products.{mul_opposite}
-use Rattle.ps_prim.specs.declared.prims.Prim.{Prim}
+use Rattle.ps_prim.specs.declared.prims.Primitive.{Primitive as Prim}
 use Rattle.ps_prim.specs.Amplitudes.{Truths, Column, amplitude, turns}
 use Rattle.ps_prim.specs.Maps.{SameAt, DiffersAt}
 use Rattle.ps_prim.specs.Columns.{inner_over}

@@ -12,8 +12,8 @@ use Rattle.ps_ring.proofs.Windows.{window_ext, window_times, window_zero}
 use Rattle.ps_ring.proofs.Inners.{inner_add_left, inner_add_right, inner_one}
 use Rattle.ps_ring.proofs.Squares.{inner_up, inner_none}
 use Rattle.ps_ring.proofs.Totals.{total_ext, total_add, total_times, total_at}
-use Rattle.ps_prim.specs.declared.prims.Prim.{Prim}
-use Rattle.ps_prim.specs.declared.prims.Prim.TheVariants.{U, Cx}
+use Rattle.ps_prim.specs.declared.prims.Primitive.{Primitive as Prim}
+use Rattle.ps_prim.specs.declared.prims.Primitive.TheVariants.{U, Cx}
 use Rattle.ps_prim.specs.Amplitudes.{Truths, Column, same_bits, act, run, start, amplitude, turns}
 use Rattle.ps_prim.specs.Maps.{AllWithin}
 use Rattle.ps_prim.specs.Columns.{inner_over, OwnInnerIsOne, OneIsSame}

@@ -9,7 +9,7 @@ use Rattle.ps_ring.proofs.Turned.{one_number, turned_same}
 use Rattle.ps_ring.proofs.Roots.{root2_add, root2_swap, same_from, same_path, above_is}
 use Rattle.ps_ring.proofs.Totals.{total_ext, total_append}
 use Rattle.ps_ring.proofs.StepLaws.{signed_number}
-use Rattle.ps_prim.specs.declared.prims.Prim.{Prim}
+use Rattle.ps_prim.specs.declared.prims.Primitive.{Primitive as Prim}
 use Rattle.ps_prim.specs.Amplitudes.{Truths, Column, same_bits, run, start, amplitude, turns}
 use Rattle.ps_prim.specs.Sums.{Denotes}
 use Rattle.ps_ring.specs.Joins.{JoinedSum}

@@ -9,7 +9,7 @@ use Rattle.ps_ring.specs.Sums.{total, PathValues, signed_count}
 use Rattle.ps_ring.proofs.Turned.{one_number, turned_by}
 use Rattle.ps_ring.proofs.Roots.{same_from}
 use Rattle.ps_ring.proofs.StepLaws.{signed_number}
-use Rattle.ps_prim.specs.declared.prims.Prim.TheVariants.{U, Cx}
+use Rattle.ps_prim.specs.declared.prims.Primitive.TheVariants.{U, Cx}
 use Rattle.ps_prim.specs.Amplitudes.{Truths, bit, same_bits, first_phase, second_phase, entry, exchanged, act, run, start, amplitude, turns}
 use Rattle.ps_prim.specs.Sums.{Denotes}
 use Rattle.ps_ring.specs.Joins.{TurnedSum}

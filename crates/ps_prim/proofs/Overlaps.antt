@@ -12,7 +12,7 @@ use Rattle.ps_ring.proofs.Roots.{root2_even, same_from, same_path, above_is, sam
 use Rattle.ps_ring.proofs.Inners.{inner_turned, inner_number, inner_add_left, inner_add_right, inner_one, inner_roots, inner_none_left, inner_none_right}
 use Rattle.ps_ring.proofs.Totals.{total_ext, total_add, total_times, total_append, total_neg, total_swap, total_at}
 use Rattle.ps_ring.proofs.StepLaws.{signed_number}
-use Rattle.ps_prim.specs.declared.prims.Prim.{Prim}
+use Rattle.ps_prim.specs.declared.prims.Primitive.{Primitive as Prim}
 use Rattle.ps_prim.specs.Amplitudes.{Truths, Column, same_bits, amplitude, turns}
 use Rattle.ps_prim.specs.Maps.{AllWithin, SameAt}
 use Rattle.ps_prim.specs.Columns.{inner_over}

@@ -9,8 +9,8 @@ use Rattle.ps_ring.proofs.Turned.{one_number, turned_same}
 use Rattle.ps_ring.proofs.Whens.{when_equal, when-true, when-false}
 use Rattle.ps_ring.proofs.Roots.{twice_power}
 use Rattle.ps_ring.proofs.Ones.{one_first, phases_meet}
-use Rattle.ps_prim.specs.declared.prims.Prim.{Prim}
-use Rattle.ps_prim.specs.declared.prims.Prim.TheVariants.{U, Cx}
+use Rattle.ps_prim.specs.declared.prims.Primitive.{Primitive as Prim}
+use Rattle.ps_prim.specs.declared.prims.Primitive.TheVariants.{U, Cx}
 use Rattle.ps_prim.specs.Amplitudes.{Truths, Column, bit, same_bits, first_phase, second_phase, entry, exchanged, act, run, start, amplitude, turns}
 use Rattle.ps_prim.specs.Plain.{IsPlain, PlainEmpty, PlainCx, PlainTurn, PlainSame, PlainOutputDiffers, PlainPhaseDiffers}
 use Rattle.ps_prim.proofs.Appended.{amplitude-last, turns-append}

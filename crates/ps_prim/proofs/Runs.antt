@@ -6,8 +6,8 @@ use Rattle.std.proofs.lemmas.Int.{ints}
 use Rattle.ps_ring.specs.Numbers.{Number, sqrt2, root2}
 use Rattle.ps_ring.specs.Sums.{total}
 use Rattle.ps_ring.proofs.Totals.{total_ext, total_add}
-use Rattle.ps_prim.specs.declared.prims.Prim.{Prim}
-use Rattle.ps_prim.specs.declared.prims.Prim.TheVariants.{U, Cx}
+use Rattle.ps_prim.specs.declared.prims.Primitive.{Primitive as Prim}
+use Rattle.ps_prim.specs.declared.prims.Primitive.TheVariants.{U, Cx}
 use Rattle.ps_prim.specs.Amplitudes.{Truths, Column, bit, first_phase, second_phase, entry, act, run}
 
 swap : (c : Number) (j p q : ℤ) → c (j -ℤ p -ℤ q) ≡ c (j -ℤ q -ℤ p)

@@ -10,7 +10,7 @@ use Rattle.ps_ring.specs.Sums.{total, insert_at}
 use Rattle.ps_ring.proofs.Totals.{total_ext, total_pull, total_times}
 use Rattle.ps_ring.proofs.Inserts.{set_inserted, get_inserted, get_beside}
 use Rattle.ps_ring.proofs.Inners.{inner_turned, inner_number, inner_add_left, inner_add_right}
-use Rattle.ps_prim.specs.declared.prims.Prim.TheVariants.{U, Cx}
+use Rattle.ps_prim.specs.declared.prims.Primitive.TheVariants.{U, Cx}
 use Rattle.ps_prim.specs.Amplitudes.{Truths, Column, bit, first_phase, second_phase, entry, flipped, exchanged, act}
 use Rattle.ps_prim.specs.Columns.{inner_over, PrimKeepsInner}
 

@@ -2,7 +2,7 @@
 use Rattle.std.specs.Prelude.{◌≡◌, ◌+◌, List, [], ◌∷◌, ◌++◌}
 use Rattle.std.proofs.Math.IntN.{ℤ}
 use Rattle.ps_ring.specs.Numbers.{IsNumber}
-use Rattle.ps_prim.specs.declared.prims.Prim.{Prim}
+use Rattle.ps_prim.specs.declared.prims.Primitive.{Primitive as Prim}
 use Rattle.ps_prim.specs.Amplitudes.{Truths, act, run, start, amplitude, turns}
 
 -- of the empty list: 1 where the output is the input

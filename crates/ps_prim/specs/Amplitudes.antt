@@ -4,8 +4,8 @@ use Rattle.std.proofs.Math.IntN.{ℤ, pos, ◌+ℤ◌, ◌-ℤ◌, neg_ℤ}
 use Rattle.ps_ring.specs.Numbers.{Number, one, when}
 pub use Rattle.ps_ring.specs.Truths.{Truths, bit}
 unfoldable pub use Rattle.ps_ring.specs.Truths.{same_bits}
-use Rattle.ps_prim.specs.declared.prims.Prim.{Prim}
-use Rattle.ps_prim.specs.declared.prims.Prim.TheVariants.{U, Cx}
+use Rattle.ps_prim.specs.declared.prims.Primitive.{Primitive as Prim}
+use Rattle.ps_prim.specs.declared.prims.Primitive.TheVariants.{U, Cx}
 
 -- an amplitude for each list of output bits
 abbrev pub Column : Type 0

@@ -4,8 +4,8 @@ use Rattle.std.proofs.Math.IntN.{ℤ, pos, ◌*ℤ◌}
 use Rattle.ps_ring.specs.Numbers.{Number, IsNumber, one}
 use Rattle.ps_ring.specs.Inner.{inner}
 use Rattle.ps_ring.specs.Sums.{total}
-use Rattle.ps_prim.specs.declared.prims.Prim.{Prim}
-use Rattle.ps_prim.specs.declared.prims.Prim.TheVariants.{U, Cx}
+use Rattle.ps_prim.specs.declared.prims.Primitive.{Primitive as Prim}
+use Rattle.ps_prim.specs.declared.prims.Primitive.TheVariants.{U, Cx}
 use Rattle.ps_prim.specs.Amplitudes.{Truths, Column, act, amplitude, turns}
 use Rattle.ps_prim.specs.Maps.{IsWithin, AllWithin, SameAt}
 

@@ -1,8 +1,8 @@
 -- When two lists of prims are one linear map on n qubits, and where they are not.
 use Rattle.std.specs.Prelude.{ℕ, ◌≡◌, ◌≢◌, ◌<◌, ◌^◌, List, [], ◌∷◌, length}
 use Rattle.std.proofs.Math.IntN.{ℤ, pos, ◌*ℤ◌}
-use Rattle.ps_prim.specs.declared.prims.Prim.{Prim}
-use Rattle.ps_prim.specs.declared.prims.Prim.TheVariants.{U, Cx}
+use Rattle.ps_prim.specs.declared.prims.Primitive.{Primitive as Prim}
+use Rattle.ps_prim.specs.declared.prims.Primitive.TheVariants.{U, Cx}
 use Rattle.ps_prim.specs.Amplitudes.{Truths, amplitude, turns}
 
 -- the prim's qubits are below n, and those of a Cx different

@@ -4,7 +4,7 @@ use Rattle.std.proofs.Math.IntN.{ℤ, pos, ◌+ℤ◌, ◌-ℤ◌}
 use Rattle.ps_ring.specs.Numbers.{one, SameScaled}
 use Rattle.ps_ring.specs.Sums.{PathValues, signed_count}
 use Rattle.ps_ring.specs.Joins.{OverlapSum, IsOpen}
-use Rattle.ps_prim.specs.declared.prims.Prim.{Prim}
+use Rattle.ps_prim.specs.declared.prims.Primitive.{Primitive as Prim}
 use Rattle.ps_prim.specs.Amplitudes.{Truths, amplitude, turns}
 use Rattle.ps_prim.specs.Maps.{AllWithin, SameAt, DiffersAt}
 use Rattle.ps_prim.specs.Columns.{inner_over}

@@ -1,7 +1,7 @@
 -- The sums of the composition denote what they stand for.
 use Rattle.std.specs.Prelude.{ℕ, List, [], ◌∷◌, ◌++◌}
 use Rattle.ps_ring.specs.Sums.{PathValues}
-use Rattle.ps_prim.specs.declared.prims.Prim.{Prim}
+use Rattle.ps_prim.specs.declared.prims.Primitive.{Primitive as Prim}
 use Rattle.ps_prim.specs.Amplitudes.{Truths}
 use Rattle.ps_prim.specs.Maps.{IsWithin}
 use Rattle.ps_prim.specs.Plain.{IsPlain}

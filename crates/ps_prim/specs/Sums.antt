@@ -4,8 +4,8 @@ use Rattle.std.proofs.Math.IntN.{pos}
 use Rattle.ps_ring.specs.Numbers.{SameScaled}
 use Rattle.ps_ring.specs.Sums.{PathValues, signed_count}
 use Rattle.ps_ring.specs.Joins.{PlainSum, TurnedSum}
-use Rattle.ps_prim.specs.declared.prims.Prim.{Prim}
-use Rattle.ps_prim.specs.declared.prims.Prim.TheVariants.{U, Cx}
+use Rattle.ps_prim.specs.declared.prims.Primitive.{Primitive as Prim}
+use Rattle.ps_prim.specs.declared.prims.Primitive.TheVariants.{U, Cx}
 use Rattle.ps_prim.specs.Amplitudes.{Truths, bit, exchanged, amplitude, turns}
 
 -- at each input and output the sum's number is the amplitude of A, each over its power of the root of 2

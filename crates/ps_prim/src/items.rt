@@ -3,7 +3,7 @@ ghost use Rattle.ps_prim.specs.Maps.{AllWithin};
 ghost use Rattle.ps_prim.specs.Items.{IsItem, IsItem-prop};
 
 use super::list::Prims;
-use super::prims::Prim;
+use super::prims::Primitive as Prim;
 
 /// What a step of a circuit does: 0 to 4,096 primitive gates, the first of them first, on qubits
 /// below 64. A controlled not has two different qubits.

@@ -8,7 +8,7 @@ pub mod prims;
 
 pub use items::Item;
 pub use list::Prims;
-pub use prims::Prim;
+pub use prims::Primitive as Prim;
 
 #[cfg(test)]
 mod tests {

@@ -1,6 +1,6 @@
 ghost use Rattle.std.specs.Prelude.{◌≡◌};
 
-use super::prims::Prim;
+use super::prims::Primitive as Prim;
 use std::marker::Model;
 
 /// A list of primitive gates, the first of them first.
@@ -11,7 +11,7 @@ pub struct Prims {
 
 impl Model for Prims {
     ghost use Rattle.std.specs.Prelude.{List};
-    ghost use Rattle.ps_prim.specs.declared.prims.Prim.{Prim};
+    ghost use Rattle.ps_prim.specs.declared.prims.Primitive.{Primitive as Prim};
 
     ghost Value = { List Prim };
 

@@ -2,7 +2,7 @@ use ps_ring::Angle;
 
 /// A primitive gate of OpenQASM 2.0 on numbered qubits.
 #[derive(Clone, Copy)]
-pub enum Prim {
+pub enum Primitive {
     /// The one-qubit gate `U(theta, phi, lambda)` on qubit `q`, in the phase in which
     /// its upper left entry is `cos(theta / 2)`.
     U {

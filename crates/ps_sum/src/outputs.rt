@@ -31,4 +31,12 @@ impl Outputs {
     {
         &self.polys
     }
+
+    /// The polynomials, in order, given away. Takes no memory.
+    pub fn into_polys(self) -> Vec<BoolPoly>
+        ensures { result.items ≡ self }
+    {
+        let Outputs { polys } = self;
+        polys
+    }
 }

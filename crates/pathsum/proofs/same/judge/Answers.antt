@@ -1,5 +1,5 @@
 use Rattle.std.proofs.Common.{◌≡◌, ap, ap₂, sym, subst, ◌∙◌, List}
-use Rattle.ps_prim.specs.declared.prims.Prim.{Prim}
+use Rattle.ps_prim.specs.declared.prims.Primitive.{Primitive as Prim}
 use Rattle.pathsum.specs.Verdicts.{Decides}
 use Rattle.pathsum.proofs.Judging.{judges_pair, decides_lists}
 use Rattle.pathsum.proofs.same.judge.Goals as goal

@@ -1,5 +1,5 @@
 use Rattle.std.proofs.Common.{◌≡◌, ap, sym, ◌∙◌, arith, ℕ, ◌<◌, List, [], length, subst, refl}
-use Rattle.ps_prim.specs.declared.prims.Prim.{Prim}
+use Rattle.ps_prim.specs.declared.prims.Primitive.{Primitive as Prim}
 use Rattle.pathsum.specs.Composed.{IsComposed}
 use Rattle.pathsum.specs.Verdicts.{OutputDifference}
 use Rattle.pathsum.proofs.Comparing.{difference_at, no_output_yet, least_output}

@@ -1,5 +1,5 @@
 use Rattle.std.proofs.Common.{ℕ, ◌<◌, List, [], length}
-use Rattle.ps_prim.specs.declared.prims.Prim.{Prim}
+use Rattle.ps_prim.specs.declared.prims.Primitive.{Primitive as Prim}
 use Rattle.pathsum.specs.Composed.{IsComposed}
 use Rattle.pathsum.specs.Verdicts.{OutputDifference}
 use Rattle.pathsum.proofs.verdict.output_difference.Given as goal
