@@ -7,3 +7,4 @@ pub mod Seeing
 pub mod Deciding
 pub mod Windows
 pub mod Earliest
+pub mod Closes
