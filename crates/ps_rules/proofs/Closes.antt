@@ -1,8 +1,10 @@
 -- Names close up in place, and order stays.
-use Rattle.std.proofs.Common.{◌≡◌, ◌≢◌, ℕ, zero, suc, ◌+◌, ◌-◌, ◌%◌, refl, ap, ap₂, sym, ◌∙◌, subst, arith, ◌<◌, ◌≤◌, Bool, true, false, cond, not, nat_eq, nat_lt, ◌&&◌, ◌||◌, List, [], ◌∷◌, ◌++◌, length, map, take, get_or, nat_cmp, ◌⊎◌, inl, inr, Ordering, Less, Equal, Greater}
+use Rattle.std.proofs.Common.{◌≡◌, ◌≢◌, ℕ, zero, suc, ◌+◌, ◌-◌, ◌%◌, refl, ap, ap₂, sym, ◌∙◌, subst, arith, ◌<◌, ◌≤◌, Bool, true, false, cond, not, nat_eq, nat_lt, ◌&&◌, ◌||◌, List, [], ◌∷◌, ◌++◌, length, map, take, set, get_or, nat_cmp, ◌⊎◌, inl, inr, Ordering, Less, Equal, Greater}
 use Rattle.std.proofs.lemmas.Bool.{cases_lt}
 use Rattle.std.proofs.lemmas.Bool.Decides.{nat_tests}
-use Rattle.std.proofs.lemmas.List.{take_more, take_all}
+use Rattle.std.proofs.lemmas.List.{take_more, take_all, get_or-set_other}
+use Rattle.std.proofs.Math.ListN.{length-set}
+use Rattle.std.proofs.Math.Seq.{take-suc-set}
 use Rattle.std.specs.Cmp.Lexicographic.{slice_cmp}
 use Rattle.std.specs.Ordering.{ordering_then}
 use Rattle.ps_mono.specs.Sets.{holds, stands, mono_cmp, IsVarSet, Climbing, Above, Below}
@@ -12,7 +14,9 @@ use Rattle.ps_mono.proofs.Laws.{set_climbing, set_all_below, climbing_set}
 use Rattle.ps_bool.specs.Polys.{bool_value, occurs, Before, Ascending, AllSets, IsPoly}
 use Rattle.ps_phase.specs.declared.terms.Term.{Term}
 use Rattle.ps_phase.specs.Phases.{phase_value, phase_occurs, TermBefore, IsTerm, IsPhasePoly}
+use Rattle.ps_phase.specs.Adding.{terms_where, terms_without}
 use Rattle.ps_phase.proofs.Adding.{neither}
+use Rattle.ps_phase.proofs.Scaling.{selected_form}
 use Rattle.ps_sum.specs.Forms.{AllPolys}
 use Rattle.ps_sum.specs.Names.{closed, opened}
 use Rattle.ps_sum.specs.Outs.{values, outs_occur}
@@ -26,7 +30,7 @@ closed_less : (v a b : ℕ) → a ≢ v → b ≢ v → a < b → closed v a < c
 unfolding closed
 closed_less v a b n m h = grind (arith, nat_tests)
 
-closed_small : (v a n : ℕ) → a < n → closed v a < n
+pub closed_small : (v a n : ℕ) → a < n → closed v a < n
 unfolding closed
 closed_small v a n h = grind (arith, nat_tests)
 
@@ -229,3 +233,85 @@ outs_closed v w (f ∷ fs) o =
 pub length_polys : (v : ℕ) (fs : List (List (List ℕ))) → length (closed_polys v fs) ≡ length fs
 length_polys v [] = refl
 length_polys v (f ∷ fs) = ap suc (length_polys v fs)
+
+-- ---- the loop of `close_terms`
+without_push : (v : ℕ) (ts : List Term) (t : Term) → stands v t.mono ≡ false → terms_where false v (ts ++ t ∷ []) ≡ terms_where false v ts ++ t ∷ []
+unfolding terms_where differ
+without_push v [] t s = ap (λ q. cond (differ false q) [] (t ∷ [])) s
+without_push v (x ∷ ts) t s = by (differ false (stands v x.mono)) (without_push v ts t s)
+  where
+    by : (q : Bool) → terms_where false v (ts ++ t ∷ []) ≡ terms_where false v ts ++ t ∷ [] → cond q (terms_where false v (ts ++ t ∷ [])) (x ∷ terms_where false v (ts ++ t ∷ [])) ≡ cond q (terms_where false v ts) (x ∷ terms_where false v ts) ++ t ∷ []
+    by true e = e
+    by false e = ap (λ (r : List Term). x ∷ r) e
+
+without_skip : (v : ℕ) (ts : List Term) (t : Term) → stands v t.mono ≡ true → terms_where false v (ts ++ t ∷ []) ≡ terms_where false v ts
+unfolding terms_where differ
+without_skip v [] t s = ap (λ q. cond (differ false q) [] (t ∷ [])) s
+without_skip v (x ∷ ts) t s = by (differ false (stands v x.mono)) (without_skip v ts t s)
+  where
+    by : (q : Bool) → terms_where false v (ts ++ t ∷ []) ≡ terms_where false v ts → cond q (terms_where false v (ts ++ t ∷ [])) (x ∷ terms_where false v (ts ++ t ∷ [])) ≡ cond q (terms_where false v ts) (x ∷ terms_where false v ts)
+    by true e = e
+    by false e = ap (λ (r : List Term). x ∷ r) e
+
+terms_push : (v : ℕ) (ts : List Term) (t : Term) → closed_terms v (ts ++ t ∷ []) ≡ closed_terms v ts ++ closed_term v t ∷ []
+terms_push v [] t = refl
+terms_push v (x ∷ ts) t = ap (λ (r : List Term). closed_term v x ∷ r) (terms_push v ts t)
+
+-- of all the first i were looked at, and the first kept of xs are what is left of them
+pub record Settling (v : ℕ) (all : List Term) (i kept : ℕ) (xs : List Term) : Type 0 where
+  pub size : length xs ≡ length all
+  pub low : kept ≤ i
+  pub front : take kept xs ≡ closed_terms v (terms_without v (take i all))
+  pub rest : (k : ℕ) (d : Term) → i ≤ k → get_or xs k d ≡ get_or all k d
+
+pub settling_start : (v : ℕ) (all : List Term) → Settling v all 0 0 all
+unfolding terms_where
+settling_start v all = record { size = refl; low = omega arith; front = refl; rest = λ k d h. refl }
+
+more_terms : (v : ℕ) (all xs : List Term) (i kept : ℕ) (t : Term) → Settling v all i kept xs → i < length xs → t ≡ get_or xs i t → take (i + 1) all ≡ take i all ++ t ∷ []
+more_terms v all xs i kept t s l e =
+    let la : i < length all = omega (arith, s.size) in
+    take_more all i t la ∙ ap (λ (r : Term). take i all ++ r ∷ []) (sym (e ∙ s.rest i t (omega arith)))
+
+pub settling_keep : (v : ℕ) (all xs ys : List Term) (i kept kept' : ℕ) (t : Term) (m : List ℕ) → i < length xs → t ≡ get_or xs i t → stands v t.mono ≡ false → m ≡ closed_mono v t.mono → kept' ≡ kept + 1 → ys ≡ set xs kept (record { mono = m; phase = t.phase })
+    → Settling v all i kept xs → Settling v all (i + 1) kept' ys
+settling_keep v all xs ys i kept kept' t m l e n em ek ey s =
+    let y : Term = record { mono = m; phase = t.phase } in
+    let lk : kept < length xs = omega (arith, s.low) in
+    let one : kept + 1 ≡ suc kept = omega arith in
+    record {
+      size = ap (λ (r : List Term). length r) ey ∙ length-set xs kept y ∙ s.size;
+      low = omega (arith, s.low);
+      front =
+          ap₂ (λ (k : ℕ) (r : List Term). take k r) (ek ∙ one) ey ∙ take-suc-set xs kept y lk
+          ∙ ap₂ (λ (r : List Term) (k : List ℕ). r ++ record { mono = k; phase = t.phase } ∷ []) s.front em
+          ∙ sym (ap (λ (r : List Term). closed_terms v (terms_without v r)) (more_terms v all xs i kept t s l e) ∙ ap (closed_terms v) (without_push v (take i all) t n) ∙ terms_push v (terms_without v (take i all)) t);
+      rest = λ k d h.
+          let c : k ≢ kept = (let q = s.low in omega arith) in
+          ap (λ (r : List Term). get_or r k d) ey ∙ rw get_or-set_other (s.rest k d (omega arith));
+    }
+
+pub settling_skip : (v : ℕ) (all xs ys : List Term) (i kept kept' : ℕ) (t : Term) → i < length xs → t ≡ get_or xs i t → stands v t.mono ≡ true → kept' ≡ kept → ys ≡ xs → Settling v all i kept xs → Settling v all (i + 1) kept' ys
+settling_skip v all xs ys i kept kept' t l e n ek ey s = record {
+  size = ap (λ (r : List Term). length r) ey ∙ s.size;
+  low = (let q = s.low in omega arith);
+  front =
+      ap₂ (λ (k : ℕ) (r : List Term). take k r) ek ey ∙ s.front
+      ∙ sym (ap (λ (r : List Term). closed_terms v (terms_without v r)) (more_terms v all xs i kept t s l e) ∙ ap (closed_terms v) (without_skip v (take i all) t n));
+  rest = λ k d h. ap (λ (r : List Term). get_or r k d) ey ∙ s.rest k d (omega arith);
+}
+
+pub settling_end : (v : ℕ) (all xs : List Term) (i kept : ℕ) → length all ≤ i → Settling v all i kept xs → take kept xs ≡ closed_terms v (terms_without v all)
+settling_end v all xs i kept h s = s.front ∙ ap (λ (r : List Term). closed_terms v (terms_without v r)) (take_all i all h)
+
+pub none_left : (v : ℕ) (ts : List Term) → phase_occurs v (terms_where false v ts) ≡ false
+unfolding terms_where phase_occurs differ
+none_left v [] = refl
+none_left v (t ∷ ts) = by (stands v t.mono) refl (none_left v ts)
+  where
+    by : (q : Bool) → stands v t.mono ≡ q → phase_occurs v (terms_where false v ts) ≡ false → phase_occurs v (cond (differ false q) (terms_where false v ts) (t ∷ terms_where false v ts)) ≡ false
+    by true e r = r
+    by false e r = ap₂ (λ (x y : Bool). x || y) e r
+
+pub settled_form : (v : ℕ) (p ts xs : List Term) → ts ≡ p → xs ≡ closed_terms v (terms_without v ts) → IsPhasePoly ts → IsPhasePoly xs
+settled_form v p ts xs e f s = subst IsPhasePoly (sym f) (form_closed v (terms_without v ts) (none_left v ts) (selected_form false v ts s))

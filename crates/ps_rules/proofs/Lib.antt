@@ -8,3 +8,4 @@ pub mod Deciding
 pub mod Windows
 pub mod Earliest
 pub mod Closes
+pub mod Mapped

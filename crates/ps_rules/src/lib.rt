@@ -6,6 +6,7 @@ mod choosing;
 pub mod faults;
 pub mod finding;
 mod looking;
+mod settling;
 mod sights;
 pub mod steps;
 
