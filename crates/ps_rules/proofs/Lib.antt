@@ -9,3 +9,4 @@ pub mod Windows
 pub mod Earliest
 pub mod Closes
 pub mod Mapped
+pub mod Quotients

@@ -3,9 +3,12 @@
 
 mod checking;
 mod choosing;
+mod dividing;
 pub mod faults;
 pub mod finding;
 mod looking;
+mod measuring;
+mod planning;
 mod settling;
 mod sights;
 pub mod steps;
