@@ -22,7 +22,7 @@ use Rattle.ps_sum.specs.Names.{closed, opened}
 use Rattle.ps_sum.specs.Outs.{values, outs_occur}
 use Rattle.ps_rules.specs.Closing.{closed_mono, closed_term, closed_terms, closed_monos, closed_polys}
 
-off : {b : Bool} → b ≡ true → b ≡ false → ⊥
+pub off : {b : Bool} → b ≡ true → b ≡ false → ⊥
 off e f = cc
 
 -- ---- one name

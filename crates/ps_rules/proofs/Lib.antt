@@ -10,3 +10,4 @@ pub mod Earliest
 pub mod Closes
 pub mod Mapped
 pub mod Quotients
+pub mod Takes

@@ -12,6 +12,7 @@ mod planning;
 mod settling;
 mod sights;
 pub mod steps;
+mod taking;
 
 pub use faults::{ApplyFault, Refused};
 pub use finding::find;
