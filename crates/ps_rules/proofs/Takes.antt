@@ -137,3 +137,69 @@ elim_taken S T y0 h en em ek ep eo = (
     outs_is = λ a. ap (λ (r : List (List (List ℕ))). values r (closed_up (S.n + y0) a)) eo ∙ polys_read (S.n + y0) S.outs a h.inner.silent;
   },
 )
+
+-- ---- one polynomial added to another
+pub sum_under : (b : ℕ) (xs ys zs : List Term) → ((u : ℕ) → phase_occurs u zs ≡ true → (phase_occurs u xs || phase_occurs u ys) ≡ true) → Under b xs → Under b ys → Under b zs
+sum_under b xs ys zs f p q u l = never (phase_occurs u zs) refl
+  where
+    never : (t : Bool) → phase_occurs u zs ≡ t → t ≡ false
+    never true e = absurd (off (f u e) (no_or _ _ (p u l) (q u l)))
+    never false e = refl
+
+free_of : (u : ℕ) (xs ys zs : List Term) → (phase_occurs u zs ≡ true → (phase_occurs u xs || phase_occurs u ys) ≡ true) → phase_occurs u xs ≡ false → phase_occurs u ys ≡ false → phase_occurs u zs ≡ false
+free_of u xs ys zs f p q = never (phase_occurs u zs) refl
+  where
+    never : (t : Bool) → phase_occurs u zs ≡ t → t ≡ false
+    never true e = absurd (off (f e) (no_or _ _ p q))
+    never false e = refl
+
+-- the eighth of a turn and the lift
+pub eighth_value : (q : List (List ℕ)) (lifted constant sum : List Term) (e t : ℕ) → e ≡ 536870912 → t ≡ 3221225472 → ((a : Assignment) → phase_value lifted a % 4294967296 ≡ times (bool_value q a) t % 4294967296) → ((a : Assignment) → phase_value constant a ≡ e)
+    → ((a : Assignment) → phase_value sum a % 4294967296 ≡ (phase_value lifted a + phase_value constant a) % 4294967296) → (a : Assignment) → phase_value sum a % 4294967296 ≡ (536870912 + times (bool_value q a) 3221225472) % 4294967296
+eighth_value q lifted constant sum e t ee et l k s a =
+    let x = l a ∙ ap (λ n. times (bool_value q a) n % 4294967296) et in
+    let y = k a ∙ ee in
+    let z = s a in
+    omega arith
+
+pub eighth_free : (u : ℕ) (q : List (List ℕ)) (lifted constant sum : List Term) → (phase_occurs u lifted ≡ true → occurs u q ≡ true) → phase_occurs u constant ≡ false → (phase_occurs u sum ≡ true → (phase_occurs u lifted || phase_occurs u constant) ≡ true) → occurs u q ≡ false → phase_occurs u sum ≡ false
+eighth_free u q lifted constant sum l k s n = free_of u lifted constant sum s (never (phase_occurs u lifted) refl) k
+  where
+    never : (t : Bool) → phase_occurs u lifted ≡ t → t ≡ false
+    never true e = absurd (off (l e) n)
+    never false e = refl
+
+-- ---- Omega
+pub omega_kept : (S : PathSum) (y0 : ℕ) (q : List (List ℕ)) (old extra added phase : List Term) (outs : List (List (List ℕ))) → OmegaApplies S y0 → IsQuotient S (Omega y0) q → old ≡ closed_terms (S.n + y0) (terms_without (S.n + y0) S.phase) → added ≡ closed_terms (S.n + y0) (terms_without (S.n + y0) extra)
+    → ((u : ℕ) → occurs u q ≡ false → phase_occurs u extra ≡ false) → ((u : ℕ) → phase_occurs u phase ≡ true → (phase_occurs u old || phase_occurs u added) ≡ true) → IsPhasePoly phase → outs ≡ closed_polys (S.n + y0) S.outs → Kept S.n (S.m - 1) phase outs
+omega_kept S y0 q old extra added phase outs h d eo ea xf af pf eu =
+    let v = S.n + y0 in
+    let b : S.n + S.m ≡ suc (S.n + (S.m - 1)) = (let i = h.inner.inside in omega arith) in
+    let l : v < suc (S.n + (S.m - 1)) = (let i = h.inner.inside in omega arith) in
+    record {
+      phase_below =
+          sum_under (S.n + (S.m - 1)) old added phase af (subst (Under (S.n + (S.m - 1))) (sym eo) (settled_under v (S.n + (S.m - 1)) S.phase l (under_is (S.n + S.m) _ S.phase b S.phase_below)))
+          (subst (Under (S.n + (S.m - 1))) (sym ea) (settled_under v (S.n + (S.m - 1)) extra l (under_is (S.n + S.m) _ extra b (λ u k. xf u (d.known u (S.phase_below u k))))));
+      outs_below = subst (OutsUnder (S.n + (S.m - 1))) (sym eu) (polys_under v (S.n + (S.m - 1)) S.outs l h.inner.silent (outs_under_is (S.n + S.m) _ S.outs b S.outs_below));
+      width = λ k. let e = ap (λ (r : List (List (List ℕ))). length r) eu ∙ length_polys v S.outs in e ∙ S.width (omega (arith, e));
+      formed = (pf, subst AllPolys (sym eu) (polys_closed v S.outs h.inner.silent S.formed.1));
+    }
+
+omega_sum : (p k x r t : ℕ) → p % 4294967296 ≡ (k + x) % 4294967296 → k ≡ r → x % 4294967296 ≡ (536870912 + t) % 4294967296 → p % 4294967296 ≡ (r + 536870912 + t) % 4294967296
+omega_sum p k x r t e f g = omega arith
+
+pub omega_taken : (S T : PathSum) (y0 : ℕ) (q : List (List ℕ)) (old extra added : List Term) → OmegaApplies S y0 → IsQuotient S (Omega y0) q → T.n ≡ S.n → T.m ≡ S.m - 1 → T.k +ℤ pos 1 ≡ S.k → old ≡ closed_terms (S.n + y0) (terms_without (S.n + y0) S.phase) → added ≡ closed_terms (S.n + y0) (terms_without (S.n + y0) extra)
+    → ((a : Assignment) → phase_value extra a % 4294967296 ≡ (536870912 + times (bool_value q a) 3221225472) % 4294967296) → ((u : ℕ) → occurs u q ≡ false → phase_occurs u extra ≡ false)
+    → ((a : Assignment) → phase_value T.phase a % 4294967296 ≡ (phase_value old a + phase_value added a) % 4294967296) → T.outs ≡ closed_polys (S.n + y0) S.outs → OmegaApplied S y0 T
+omega_taken S T y0 q old extra added h d en em ek eo ea xv xf tv eu = (
+  record { n_is = en; m_is = (let i = h.inner.inside in omega arith); k_is = ek },
+  record {
+    phase_is = λ a.
+        let v = S.n + y0 in
+        omega_sum _ _ _ (phase_value S.phase (with_value a v false)) (times (rest_value S (Omega y0) a) 3221225472) (tv (closed_up v a))
+        (ap (λ (r : List Term). phase_value r (closed_up v a)) eo ∙ settled_value v S.phase a)
+        (ap (λ (r : List Term). phase_value r (closed_up v a) % 4294967296) ea ∙ ap (λ n. n % 4294967296) (settled_value v extra a ∙ phase_apart v extra a false (xf v d.first_free)) ∙ xv a
+        ∙ ap (λ b. (536870912 + times b 3221225472) % 4294967296) (d.poly.value a));
+    outs_is = λ a. ap (λ (r : List (List (List ℕ))). values r (closed_up (S.n + y0) a)) eu ∙ polys_read (S.n + y0) S.outs a h.inner.silent;
+  },
+)

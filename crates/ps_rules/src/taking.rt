@@ -1,5 +1,8 @@
-ghost use Rattle.std.specs.Prelude.{◌≡◌, ℕ, ◌<◌, ◌+◌, Bool, false, negsuc, pos, ◌+ℤ◌, ◌≤ℤ◌, length, IfOk};
-ghost use Rattle.ps_mono.specs.Truth.{with_value};
+ghost use Rattle.std.specs.Prelude.{◌≡◌, ℕ, ◌<◌, ◌+◌, ◌%◌, Bool, true, false, not, ◌&&◌, nat_eq, negsuc, pos, ◌+ℤ◌, ◌≤ℤ◌, length, IfOk, OnOk};
+ghost use Rattle.ps_mono.specs.Truth.{times, with_value};
+ghost use Rattle.ps_phase.specs.Adding.{terms_with, terms_without};
+ghost use Rattle.ps_phase.specs.Phases.{phase_value, phase_occurs, IsPhasePoly};
+ghost use Rattle.ps_rules.specs.Closing.{IsReplaced};
 ghost use Rattle.ps_bool.specs.Polys.{bool_value, occurs};
 ghost use Rattle.ps_sum.specs.Forms.{AllPolys};
 ghost use Rattle.ps_sum.specs.Outs.{values, outs_occur};
@@ -105,7 +108,11 @@ fn quartered(alloc: Global, sum: PathSum, y0: u16, poly: &BoolPoly) -> Result<Pa
 }
 
 // An eighth of a turn, and three quarters more where the polynomial is 1.
-fn eighth_turn(alloc: Global, poly: &BoolPoly) -> Result<PhasePoly, AllocError> {
+fn eighth_turn(alloc: Global, poly: &BoolPoly) -> Result<PhasePoly, AllocError>
+    ensures value { IfOk result (λ p. (a : ℕ → Bool) → phase_value p a % 4294967296 ≡ (536870912 + times (bool_value poly.now a) 3221225472) % 4294967296) }
+    ensures variables { IfOk result (λ p. (u : ℕ) → occurs u poly.now ≡ false → phase_occurs u p ≡ false) }
+    ensures form { IfOk result (λ p. IsPhasePoly p) }
+{
     let mut extra = lift(alloc, poly, Phase::of(THREE_QUARTERS))?;
     extra.add_to(&PhasePoly::constant(alloc, Phase::of(EIGHTH))?)?;
     Ok(extra)
@@ -155,20 +162,34 @@ fn multiplied(
     first: u16,
     second: u16,
     poly: &BoolPoly,
-) -> Result<PhasePoly, AllocError> {
+) -> Result<PhasePoly, AllocError>
+    requires left { first < 512 }
+    requires right { second < 512 }
+    ensures value { IfOk result (λ p. (a : ℕ → Bool) → phase_value p a % 4294967296 ≡ phase_value (terms_without first (terms_with second phase.now)) (with_value a second (bool_value poly.now a)) % 4294967296) }
+    ensures variables { IfOk result (λ p. (u : ℕ) → (phase_occurs u (terms_without first (terms_with second phase.now)) && not (nat_eq u second)) ≡ false → occurs u poly.now ≡ false → phase_occurs u p ≡ false) }
+    ensures form { IfOk result (λ p. IsPhasePoly p) }
+{
     let with = phase.terms_with(second)?;
     subst_phase(alloc, &with.terms_without(first)?, second, poly)
 }
 
 // The outputs with the polynomial in place of v.
-fn replaced_outs(outs: Outputs, v: u16, poly: &BoolPoly) -> Result<Outputs, AllocError> {
+fn replaced_outs(outs: Outputs, v: u16, poly: &BoolPoly) -> Result<Outputs, AllocError>
+    requires small { v < 512 }
+    requires form { AllPolys outs }
+    ensures { IfOk result (λ o. IsReplaced v poly.now outs o) }
+{
     let mut polys = outs.into_polys();
     replace_polys(&mut polys, v, poly)?;
     Ok(Outputs::of(polys))
 }
 
 // The same in place; only the outputs with v are made anew.
-fn replace_polys(polys: &mut Vec<BoolPoly>, v: u16, poly: &BoolPoly) -> Result<(), AllocError> {
+fn replace_polys(polys: &mut Vec<BoolPoly>, v: u16, poly: &BoolPoly) -> Result<(), AllocError>
+    requires small { v < 512 }
+    requires form { AllPolys polys.old.items }
+    ensures { OnOk result (IsReplaced v poly.now polys.old.items polys.new.items) }
+{
     for out in polys.iter_mut() {
         if out.contains(v) {
             *out = out.subst(v, poly)?;
