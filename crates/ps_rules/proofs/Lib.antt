@@ -11,3 +11,4 @@ pub mod Closes
 pub mod Mapped
 pub mod Quotients
 pub mod Takes
+pub mod Replaces

@@ -1,9 +1,10 @@
 -- The sums that the steps make.
 use mathlib.Core.Path.{fun_ext}
-use Rattle.std.proofs.Common.{◌≡◌, ◌≢◌, ℕ, zero, suc, ◌+◌, ◌-◌, ◌%◌, refl, ap, ap₂, sym, ◌∙◌, subst, arith, ◌<◌, ◌≤◌, Bool, true, false, cond, not, nat_eq, nat_lt, ◌&&◌, ◌||◌, List, [], ◌∷◌, length, map, zero-add, ◌⊎◌, inl, inr}
+use Rattle.std.proofs.Common.{◌≡◌, ◌≢◌, ℕ, zero, suc, ◌+◌, ◌-◌, ◌%◌, refl, ap, ap₂, sym, ◌∙◌, subst, arith, ◌<◌, ◌≤◌, Bool, true, false, cond, not, nat_eq, nat_lt, ◌&&◌, ◌||◌, List, [], ◌∷◌, length, map, min, max, zero-add, ◌⊎◌, inl, inr}
 use Rattle.std.proofs.Math.IntN.{ℤ, pos, negsuc, ◌+ℤ◌}
 use Rattle.std.proofs.Common.{◌≤ℤ◌}
 use Rattle.std.proofs.lemmas.Int.{ints}
+use Rattle.std.proofs.lemmas.Bool.{cases_lt}
 use Rattle.std.proofs.lemmas.Bool.Decides.{nat_tests}
 use Rattle.ps_mono.specs.Sets.{holds, stands}
 use Rattle.ps_mono.specs.Lists.{nat_eq_true, nat_eq_same, nat_eq_other}
@@ -27,7 +28,7 @@ use Rattle.ps_sum.specs.Outs.{values, outs_occur}
 use Rattle.ps_sum.proofs.Closings.{opened_above}
 use Rattle.ps_rules.specs.declared.steps.Step.{Step}
 use Rattle.ps_rules.specs.declared.steps.Step.TheVariants.{Elim, Hh, Omega}
-use Rattle.ps_rules.specs.Closing.{closed_terms, closed_polys}
+use Rattle.ps_rules.specs.Closing.{closed_terms, closed_polys, IsReplaced}
 use Rattle.ps_rules.specs.Rules.{ElimApplies, HhApplies, OmegaApplies, Lowered, Becomes, ElimApplied, HhApplied, OmegaApplied, rest_value}
 use Rattle.ps_rules.specs.Plans.{IsQuotient}
 use Rattle.ps_rules.proofs.Closes.{off, none_left, form_closed, value_closed, occurs_closed, values_closed, outs_closed, polys_closed, length_polys}
@@ -203,3 +204,254 @@ omega_taken S T y0 q old extra added h d en em ek eo ea xv xf tv eu = (
     outs_is = λ a. ap (λ (r : List (List (List ℕ))). values r (closed_up (S.n + y0) a)) eu ∙ polys_read (S.n + y0) S.outs a h.inner.silent;
   },
 )
+
+-- ---- two variables
+-- a value put in for v, and one for w
+with_swap : (a : Assignment) (v w : ℕ) (b c : Bool) → v ≢ w → with_value (with_value a w c) v b ≡ with_value (with_value a v b) w c
+with_swap a v w b c d = fun_ext (λ u. by u (nat_eq u v) refl (nat_eq u w) refl)
+  where
+    by : (u : ℕ) (p : Bool) → nat_eq u v ≡ p → (r : Bool) → nat_eq u w ≡ r → cond p b (cond r c (a u)) ≡ cond r c (cond p b (a u))
+    by u true e true f = absurd (d (sym (nat_eq_true u v e) ∙ nat_eq_true u w f))
+    by u true e false f = refl
+    by u false e true f = refl
+    by u false e false f = refl
+
+with_over : (a : Assignment) (w : ℕ) (b c : Bool) → with_value (with_value a w c) w b ≡ with_value a w b
+with_over a w b c = fun_ext (λ u. by u (nat_eq u w))
+  where
+    by : (u : ℕ) (p : Bool) → cond p b (cond p c (a u)) ≡ cond p b (a u)
+    by u true = refl
+    by u false = refl
+
+-- the names closed up in either order
+name_order : (low high u : ℕ) → low < high → rings.opened low (rings.opened (closed low high) u) ≡ rings.opened high (rings.opened low u)
+unfolding rings.opened closed
+name_order low high u h = grind (arith, nat_tests)
+
+name_same : (low high : ℕ) → low < high → closed high low ≡ low
+unfolding closed
+name_same low high h = grind (arith, nat_tests)
+
+pub record Sorted (v w low high : ℕ) : Type 0 where
+  pub order : low < high
+  pub are : ((low ≡ v) × (high ≡ w)) ⊎ ((low ≡ w) × (high ≡ v))
+
+pub sorted_of : (v w low high : ℕ) → w ≢ v → high ≡ max v w → low ≡ min v w → Sorted v w low high
+sorted_of v w low high d eh el = record { order = omega arith; are = by (cases_lt v w) }
+  where
+    by : ((v < w) ⊎ (w ≤ v)) → ((low ≡ v) × (high ≡ w)) ⊎ ((low ≡ w) × (high ≡ v))
+    by (inl l) = inl ((omega arith), (omega arith))
+    by (inr l) = inr ((omega arith), (omega arith))
+
+names_sorted : (v w low high : ℕ) (a : Assignment) → Sorted v w low high → closed_up (closed v w) (closed_up v a) ≡ closed_up low (closed_up high a)
+names_sorted v w low high a s = by s.are
+  where
+    by : ((low ≡ v) × (high ≡ w)) ⊎ ((low ≡ w) × (high ≡ v)) → closed_up (closed v w) (closed_up v a) ≡ closed_up low (closed_up high a)
+    by (inl p) =
+        ap₂ (λ (x y : ℕ). closed_up (closed x y) (closed_up x a)) (sym p.0) (sym p.1)
+        ∙ fun_ext (λ u. ap a (name_order low high u s.order))
+    by (inr p) =
+        ap₂ (λ (x y : ℕ). closed_up (closed x y) (closed_up x a)) (sym p.1) (sym p.0)
+        ∙ ap (λ x. closed_up x (closed_up high a)) (name_same low high s.order)
+
+falses_sorted : (v w low high : ℕ) (a : Assignment) → w ≢ v → Sorted v w low high → with_value (with_value a low false) high false ≡ with_value (with_value a w false) v false
+falses_sorted v w low high a d s = by s.are
+  where
+    by : ((low ≡ v) × (high ≡ w)) ⊎ ((low ≡ w) × (high ≡ v)) → with_value (with_value a low false) high false ≡ with_value (with_value a w false) v false
+    by (inl p) = ap₂ (λ (x y : ℕ). with_value (with_value a x false) y false) p.0 p.1 ∙ with_swap a w v false false d
+    by (inr p) = ap₂ (λ (x y : ℕ). with_value (with_value a x false) y false) p.0 p.1
+
+free_sorted : (v w low high : ℕ) (ts : List Term) → Sorted v w low high → phase_occurs v ts ≡ false → phase_occurs w ts ≡ false → (phase_occurs low ts ≡ false) × (phase_occurs high ts ≡ false)
+free_sorted v w low high ts s n m = by s.are
+  where
+    by : ((low ≡ v) × (high ≡ w)) ⊎ ((low ≡ w) × (high ≡ v)) → (phase_occurs low ts ≡ false) × (phase_occurs high ts ≡ false)
+    by (inl p) = (ap (λ x. phase_occurs x ts) p.0 ∙ n, ap (λ x. phase_occurs x ts) p.1 ∙ m)
+    by (inr p) = (ap (λ x. phase_occurs x ts) p.0 ∙ m, ap (λ x. phase_occurs x ts) p.1 ∙ n)
+
+pub outs_free_sorted : (v w low high : ℕ) (fs : List (List (List ℕ))) → Sorted v w low high → outs_occur v fs ≡ false → outs_occur w fs ≡ false → (outs_occur low fs ≡ false) × (outs_occur high fs ≡ false)
+outs_free_sorted v w low high fs s n m = by s.are
+  where
+    by : ((low ≡ v) × (high ≡ w)) ⊎ ((low ≡ w) × (high ≡ v)) → (outs_occur low fs ≡ false) × (outs_occur high fs ≡ false)
+    by (inl p) = (ap (λ x. outs_occur x fs) p.0 ∙ n, ap (λ x. outs_occur x fs) p.1 ∙ m)
+    by (inr p) = (ap (λ x. outs_occur x fs) p.0 ∙ m, ap (λ x. outs_occur x fs) p.1 ∙ n)
+
+high_small : (v w low high b : ℕ) → Sorted v w low high → v < b → w < b → high < b
+high_small v w low high b s h k = by s.are
+  where
+    by : ((low ≡ v) × (high ≡ w)) ⊎ ((low ≡ w) × (high ≡ v)) → high < b
+    by (inl p) = let e = p.1 in omega arith
+    by (inr p) = let e = p.1 in omega arith
+
+-- both dropped and closed up
+abbrev pub settled : ℕ → List Term → List Term
+settled v ts = closed_terms v (terms_without v ts)
+
+open_test : (low high u : ℕ) → low < high → nat_eq u low ≡ nat_eq (rings.opened high u) low
+unfolding rings.opened
+open_test low high u h = grind (arith, nat_tests)
+
+closing_false : (low high : ℕ) (a : Assignment) → low < high → with_value (closed_up high a) low false ≡ closed_up high (with_value a low false)
+closing_false low high a h = fun_ext (λ u. ap (λ (b : Bool). cond b false (a (rings.opened high u))) (test u))
+  where
+    test : (u : ℕ) → nat_eq u low ≡ nat_eq (rings.opened high u) low
+    test u = open_test low high u h
+
+settled_twice : (low high : ℕ) (ts : List Term) (a : Assignment) → low < high → phase_value (settled low (settled high ts)) (closed_up low (closed_up high a)) ≡ phase_value ts (with_value (with_value a low false) high false)
+settled_twice low high ts a h =
+    settled_value low (settled high ts) (closed_up high a) ∙ ap (phase_value (settled high ts)) (closing_false low high a h) ∙ settled_value high ts (with_value a low false)
+
+settled_apart : (low high : ℕ) (ts : List Term) (a : Assignment) → low < high → phase_occurs low ts ≡ false → phase_occurs high ts ≡ false → phase_value (settled low (settled high ts)) (closed_up low (closed_up high a)) ≡ phase_value ts a
+settled_apart low high ts a h n m = settled_twice low high ts a h ∙ phase_apart high ts (with_value a low false) false m ∙ phase_apart low ts a false n
+
+twice_under : (low high b : ℕ) (ts : List Term) → low < high → high < suc (suc b) → Under (suc (suc b)) ts → Under b (settled low (settled high ts))
+twice_under low high b ts h k f = settled_under low b (settled high ts) (omega arith) (settled_under high (suc b) ts k f)
+
+twice_form : (low high : ℕ) (ts : List Term) → IsPhasePoly ts → IsPhasePoly (settled low (settled high ts))
+twice_form low high ts p = settled_form low (settled high ts) (settled_form high ts p)
+
+open_low : (low high : ℕ) → low < high → opened high low ≡ low
+unfolding opened
+open_low low high h = grind (arith, nat_tests)
+
+pub low_free : (low high : ℕ) (fs : List (List (List ℕ))) → low < high → outs_occur low fs ≡ false → outs_occur high fs ≡ false → outs_occur low (closed_polys high fs) ≡ false
+low_free low high fs h n m = outs_closed high low fs m ∙ ap (λ x. outs_occur x fs) (open_low low high h) ∙ n
+
+-- ---- what Hh is made of
+pub record HhParts (S : PathSum) (y0 y1 : ℕ) (q : List (List ℕ)) (low high : ℕ) (products old added phase : List Term) (replaced outs : List (List (List ℕ))) : Type 0 where
+  pub sorted : Sorted (S.n + y0) (S.n + y1) low high
+  pub product_value : (a : Assignment) → phase_value products a % 4294967296 ≡ phase_value (terms_without (S.n + y0) (terms_with (S.n + y1) S.phase)) (with_value a (S.n + y1) (bool_value q a)) % 4294967296
+  pub product_known : (u : ℕ) → (phase_occurs u (terms_without (S.n + y0) (terms_with (S.n + y1) S.phase)) && not (nat_eq u (S.n + y1))) ≡ false → occurs u q ≡ false → phase_occurs u products ≡ false
+  pub old_is : old ≡ settled low (settled high S.phase)
+  pub added_is : added ≡ settled low (settled high products)
+  pub phase_value_is : (a : Assignment) → phase_value phase a % 4294967296 ≡ (phase_value old a + phase_value added a) % 4294967296
+  pub phase_known : (u : ℕ) → phase_occurs u phase ≡ true → (phase_occurs u old || phase_occurs u added) ≡ true
+  pub phase_form : IsPhasePoly phase
+  pub replaced_is : IsReplaced (S.n + y1) q S.outs replaced
+  pub outs_are : outs ≡ closed_polys low (closed_polys high replaced)
+
+and_left : (p q : Bool) → p ≡ false → (p && q) ≡ false
+and_left p q e = ap (λ b. b && q) e
+
+and_right : (p q : Bool) → q ≡ true → (p && not q) ≡ false
+and_right true q e = ap not e
+and_right false q e = refl
+
+with_free : (w u : ℕ) (ts : List Term) → phase_occurs u ts ≡ false → phase_occurs u (terms_where true w ts) ≡ false
+unfolding terms_where phase_occurs
+with_free w u [] n = n
+with_free w u (t ∷ ts) n = let k = neither (stands u t.mono) (phase_occurs u ts) n in by (differ true (stands w t.mono)) k.0 (with_free w u ts k.1)
+  where
+    by : (q : Bool) → stands u t.mono ≡ false → phase_occurs u (terms_where true w ts) ≡ false → phase_occurs u (cond q (terms_where true w ts) (t ∷ terms_where true w ts)) ≡ false
+    by true s r = r
+    by false s r = no_or _ _ s r
+
+apart_names : (n y0 y1 : ℕ) → y1 ≢ y0 → n + y1 ≢ n + y0
+apart_names n y0 y1 d e = d (omega arith)
+
+-- the products know neither variable, nor do the outputs
+products_free : (S : PathSum) (y0 y1 : ℕ) (q : List (List ℕ)) (low high : ℕ) (products old added phase : List Term) (replaced outs : List (List (List ℕ))) → IsQuotient S (Hh y0 y1) q → HhParts S y0 y1 q low high products old added phase replaced outs → (phase_occurs (S.n + y0) products ≡ false) × (phase_occurs (S.n + y1) products ≡ false)
+products_free S y0 y1 q low high products old added phase replaced outs d p = (
+  p.product_known (S.n + y0) (and_left _ _ (none_left (S.n + y0) (terms_with (S.n + y1) S.phase))) d.first_free,
+  p.product_known (S.n + y1) (and_right _ _ (nat_eq_same (S.n + y1))) d.second_free,
+)
+
+pub replaced_free : (S : PathSum) (y0 y1 : ℕ) (q : List (List ℕ)) (replaced : List (List (List ℕ))) → HhApplies S y0 y1 → IsQuotient S (Hh y0 y1) q → IsReplaced (S.n + y1) q S.outs replaced → (outs_occur (S.n + y0) replaced ≡ false) × (outs_occur (S.n + y1) replaced ≡ false)
+replaced_free S y0 y1 q replaced h d r = (
+  r.known (S.n + y0) (and_left _ _ h.inner.silent) d.first_free,
+  r.known (S.n + y1) (and_right _ _ (nat_eq_same (S.n + y1))) d.second_free,
+)
+
+-- the phase, where v and w are the variables and b the value of the polynomial
+hh_sum : (n k x r s : ℕ) → n % 4294967296 ≡ (k + x) % 4294967296 → k ≡ r → x % 4294967296 ≡ s % 4294967296 → n % 4294967296 ≡ (r + s) % 4294967296
+hh_sum n k x r s e f g = omega arith
+
+split_at_false : (v w : ℕ) (ts : List Term) (a : Assignment) (b : Bool) → w ≢ v
+    → phase_value ts (with_value (with_value a w false) v false) + phase_value (terms_without v (terms_with w ts)) (with_value a w b) ≡ phase_value ts (with_value (with_value a w b) v false)
+split_at_false v w ts a b d =
+    let c = with_value (with_value a w b) v false in
+    let e : phase_value ts (with_value (with_value a w false) v false) ≡ phase_value (terms_without w ts) c =
+    ap (phase_value ts) (ap (λ x. with_value x v false) (sym (with_over a w false b)) ∙ sym (with_swap (with_value a w b) w v false false d)) ∙ sym (without_false w ts c)
+    in
+    ap₂ (λ (x y : ℕ). x + y) e (without_false v (terms_with w ts) (with_value a w b)) ∙ split_value w ts c
+
+pub hh_kept : (S : PathSum) (y0 y1 : ℕ) (q : List (List ℕ)) (low high : ℕ) (products old added phase : List Term) (replaced outs : List (List (List ℕ))) → HhApplies S y0 y1 → IsQuotient S (Hh y0 y1) q → HhParts S y0 y1 q low high products old added phase replaced outs → Kept S.n (S.m - 2) phase outs
+hh_kept S y0 y1 q low high products old added phase replaced outs h d p =
+    let b : S.n + S.m ≡ suc (suc (S.n + (S.m - 2))) = (let i = h.inner.inside in let j = h.second in let k = h.apart in omega arith) in
+    let l : high < suc (suc (S.n + (S.m - 2))) = high_small (S.n + y0) (S.n + y1) low high _ p.sorted (let i = h.inner.inside in omega arith) (let i = h.second in omega arith) in
+    let f = replaced_free S y0 y1 q replaced h d p.replaced_is in
+    let g = outs_free_sorted (S.n + y0) (S.n + y1) low high replaced p.sorted f.0 f.1 in
+    let under : OutsUnder (S.n + S.m) replaced = (λ u k. p.replaced_is.known u (and_left _ _ (S.outs_below u k)) (d.known u (S.phase_below u k))) in
+    record {
+      phase_below =
+          sum_under (S.n + (S.m - 2)) old added phase p.phase_known (subst (Under (S.n + (S.m - 2))) (sym p.old_is) (twice_under low high (S.n + (S.m - 2)) S.phase p.sorted.order l (under_is (S.n + S.m) _ S.phase b S.phase_below)))
+          (subst (Under (S.n + (S.m - 2))) (sym p.added_is) (twice_under low high (S.n + (S.m - 2)) products p.sorted.order l (under_is (S.n + S.m) _ products b (λ u k. p.product_known u (and_left _ _ (without_free (S.n + y0) u (terms_with (S.n + y1) S.phase) (with_free (S.n + y1) u S.phase (S.phase_below u k)))) (d.known u (S.phase_below u k))))));
+      outs_below =
+          subst (OutsUnder (S.n + (S.m - 2))) (sym p.outs_are)
+          (polys_under low (S.n + (S.m - 2)) (closed_polys high replaced) (let o = p.sorted.order in omega arith) (low_free low high replaced p.sorted.order g.0 g.1)
+          (polys_under high (suc (S.n + (S.m - 2))) replaced l g.1 (outs_under_is (S.n + S.m) _ replaced b under)));
+      width = λ k.
+          let e = ap (λ (r : List (List (List ℕ))). length r) p.outs_are ∙ length_polys low (closed_polys high replaced) ∙ length_polys high replaced ∙ p.replaced_is.size in
+          e ∙ S.width (omega (arith, e));
+      formed = (p.phase_form, subst AllPolys (sym p.outs_are) (polys_closed low (closed_polys high replaced) (low_free low high replaced p.sorted.order g.0 g.1) (polys_closed high replaced g.1 p.replaced_is.form)));
+    }
+
+pub hh_taken : (S T : PathSum) (y0 y1 : ℕ) (q : List (List ℕ)) (low high : ℕ) (products old added : List Term) (replaced : List (List (List ℕ))) → HhApplies S y0 y1 → IsQuotient S (Hh y0 y1) q → T.n ≡ S.n → T.m ≡ S.m - 2 → T.k +ℤ pos 2 ≡ S.k → HhParts S y0 y1 q low high products old added T.phase replaced T.outs → HhApplied S y0 y1 T
+hh_taken S T y0 y1 q low high products old added replaced h d en em ek p = (
+  record { n_is = en; m_is = (let i = h.inner.inside in let j = h.second in let k = h.apart in omega arith); k_is = ek },
+  record {
+    phase_is = λ a.
+        let v = S.n + y0 in
+        let w = S.n + y1 in
+        let b = bool_value q a in
+        let f = products_free S y0 y1 q low high products old added T.phase replaced T.outs d p in
+        let g = free_sorted v w low high products p.sorted f.0 f.1 in
+        let n = apart_names S.n y0 y1 h.apart in
+        ap (λ c. phase_value T.phase c % 4294967296) (names_sorted v w low high a p.sorted)
+        ∙ hh_sum _ _ _ (phase_value S.phase (with_value (with_value a w false) v false)) (phase_value (terms_without v (terms_with w S.phase)) (with_value a w b)) (p.phase_value_is (closed_up low (closed_up high a)))
+        (ap (λ (r : List Term). phase_value r (closed_up low (closed_up high a))) p.old_is ∙ settled_twice low high S.phase a p.sorted.order ∙ ap (phase_value S.phase) (falses_sorted v w low high a n p.sorted))
+        (ap (λ (r : List Term). phase_value r (closed_up low (closed_up high a)) % 4294967296) p.added_is ∙ ap (λ c. c % 4294967296) (settled_apart low high products a p.sorted.order g.0 g.1) ∙ p.product_value a)
+        ∙ ap (λ c. c % 4294967296) (split_at_false v w S.phase a b n)
+        ∙ ap (λ c. phase_value S.phase (with_value (with_value a w c) v false) % 4294967296) (d.poly.value a);
+    outs_is = λ a.
+        let v = S.n + y0 in
+        let w = S.n + y1 in
+        let f = replaced_free S y0 y1 q replaced h d p.replaced_is in
+        let g = outs_free_sorted v w low high replaced p.sorted f.0 f.1 in
+        ap (λ c. values T.outs c) (names_sorted v w low high a p.sorted) ∙ ap (λ (r : List (List (List ℕ))). values r (closed_up low (closed_up high a))) p.outs_are
+        ∙ polys_read low (closed_polys high replaced) (closed_up high a) (low_free low high replaced p.sorted.order g.0 g.1) ∙ polys_read high replaced a g.1 ∙ p.replaced_is.value a
+        ∙ ap (λ c. values S.outs (with_value a w c)) (d.poly.value a);
+  },
+)
+
+-- the parts as the calls give them
+pub hh_parts : (S : PathSum) (y0 y1 : ℕ) (q : List (List ℕ)) (low high : ℕ) (products inner added outer old phase : List Term) (replaced mid outs : List (List (List ℕ))) → HhApplies S y0 y1 → high ≡ max (S.n + y0) (S.n + y1) → low ≡ min (S.n + y0) (S.n + y1)
+    → ((a : Assignment) → phase_value products a % 4294967296 ≡ phase_value (terms_without (S.n + y0) (terms_with (S.n + y1) S.phase)) (with_value a (S.n + y1) (bool_value q a)) % 4294967296)
+    → ((u : ℕ) → (phase_occurs u (terms_without (S.n + y0) (terms_with (S.n + y1) S.phase)) && not (nat_eq u (S.n + y1))) ≡ false → occurs u q ≡ false → phase_occurs u products ≡ false)
+    → inner ≡ settled high products → added ≡ settled low inner → outer ≡ settled high S.phase → old ≡ settled low outer
+    → ((a : Assignment) → phase_value phase a % 4294967296 ≡ (phase_value old a + phase_value added a) % 4294967296) → ((u : ℕ) → phase_occurs u phase ≡ true → (phase_occurs u old || phase_occurs u added) ≡ true) → IsPhasePoly phase
+    → IsReplaced (S.n + y1) q S.outs replaced → mid ≡ closed_polys high replaced → outs ≡ closed_polys low mid → HhParts S y0 y1 q low high products old added phase replaced outs
+hh_parts S y0 y1 q low high products inner added outer old phase replaced mid outs h eh el pv pk ei ea eo ed fv fk ff r em eu = record {
+  sorted = sorted_of (S.n + y0) (S.n + y1) low high (apart_names S.n y0 y1 h.apart) eh el;
+  product_value = pv;
+  product_known = pk;
+  old_is = ed ∙ ap (settled low) eo;
+  added_is = ea ∙ ap (settled low) ei;
+  phase_value_is = fv;
+  phase_known = fk;
+  phase_form = ff;
+  replaced_is = r;
+  outs_are = eu ∙ ap (closed_polys low) em;
+}
+
+-- what the calls on the outputs ask
+pub high_outs : (S : PathSum) (y0 y1 : ℕ) (q : List (List ℕ)) (low high : ℕ) (replaced : List (List (List ℕ))) → HhApplies S y0 y1 → IsQuotient S (Hh y0 y1) q → high ≡ max (S.n + y0) (S.n + y1) → low ≡ min (S.n + y0) (S.n + y1) → IsReplaced (S.n + y1) q S.outs replaced → outs_occur high replaced ≡ false
+high_outs S y0 y1 q low high replaced h d eh el r =
+    let f = replaced_free S y0 y1 q replaced h d r in
+    (outs_free_sorted (S.n + y0) (S.n + y1) low high replaced (sorted_of (S.n + y0) (S.n + y1) low high (apart_names S.n y0 y1 h.apart) eh el) f.0 f.1).1
+
+pub low_outs : (S : PathSum) (y0 y1 : ℕ) (q : List (List ℕ)) (low high : ℕ) (replaced mid : List (List (List ℕ))) → HhApplies S y0 y1 → IsQuotient S (Hh y0 y1) q → high ≡ max (S.n + y0) (S.n + y1) → low ≡ min (S.n + y0) (S.n + y1) → IsReplaced (S.n + y1) q S.outs replaced → mid ≡ closed_polys high replaced → outs_occur low mid ≡ false
+low_outs S y0 y1 q low high replaced mid h d eh el r em =
+    let s = sorted_of (S.n + y0) (S.n + y1) low high (apart_names S.n y0 y1 h.apart) eh el in
+    let f = replaced_free S y0 y1 q replaced h d r in
+    let g = outs_free_sorted (S.n + y0) (S.n + y1) low high replaced s f.0 f.1 in
+    ap (outs_occur low) em ∙ low_free low high replaced s.order g.0 g.1
