@@ -22,6 +22,7 @@ use Rattle.ps_sum.specs.declared.sums.PathSum.{PathSum}
 use Rattle.ps_sum.specs.Names.{closed}
 use Rattle.ps_sum.specs.Outs.{values}
 use Rattle.ps_sum.specs.Sums.{path_values}
+use Rattle.ps_sum.proofs.Closings.{length_values}
 use Rattle.ps_rules.specs.declared.steps.Step.{Step}
 use Rattle.ps_rules.specs.declared.steps.Step.TheVariants.{Elim, Hh, Omega}
 use Rattle.ps_rules.specs.Terms.{EachWith, IsHalf, both, others}
@@ -216,3 +217,17 @@ pub applied_keeps : (S T : PathSum) (s : Step) → IsPhasePoly S.phase → Appli
 applied_keeps S T (Elim y0) p h a = elim_number S T y0 h a
 applied_keeps S T (Hh y0 y1) p h a = hh_number S T y0 y1 p h a
 applied_keeps S T (Omega y0) p h a = omega_number S T y0 p h a
+
+-- ---- what else stays, and what falls
+same_length : (fs gs : List (List (List ℕ))) (a b : ℕ → Bool) → values fs a ≡ values gs b → length fs ≡ length gs
+same_length fs gs a b e = sym (length_values fs a) ∙ ap (λ (r : List Bool). length r) e ∙ length_values gs b
+
+pub applied_width : (S T : PathSum) (s : Step) → Applied S s T → length T.outs ≡ length S.outs
+applied_width S T (Elim y0) (l, b) = same_length T.outs S.outs _ _ (b.outs_is (λ u. false))
+applied_width S T (Hh y0 y1) (l, b) = same_length T.outs S.outs _ _ (b.outs_is (λ u. false))
+applied_width S T (Omega y0) (l, b) = same_length T.outs S.outs _ _ (b.outs_is (λ u. false))
+
+pub applied_falls : (S T : PathSum) (s : Step) → Applied S s T → T.m < S.m
+applied_falls S T (Elim y0) (l, b) = let m = l.m_is in omega arith
+applied_falls S T (Hh y0 y1) (l, b) = let m = l.m_is in omega arith
+applied_falls S T (Omega y0) (l, b) = let m = l.m_is in omega arith

@@ -1,6 +1,7 @@
 //! The three rewrite steps of path sums: which step comes first, and the sum after a step.
 #![tactic(auto)]
 
+pub mod applying;
 mod checking;
 mod choosing;
 mod dividing;
@@ -14,6 +15,7 @@ mod sights;
 pub mod steps;
 mod taking;
 
+pub use applying::{apply, rewrite};
 pub use faults::{ApplyFault, Refused};
 pub use finding::find;
 pub use steps::{Move, Step};
