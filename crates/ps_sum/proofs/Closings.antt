@@ -144,7 +144,7 @@ pub monos_start : (v : ℕ) (f out : List (List ℕ)) → out ≡ [] → ClosedM
 unfolding bool_value occurs
 monos_start v f out e = record { value = λ a. ap (λ (r : List (List ℕ)). bool_value r a) e; free = λ w k. ap (occurs w) e }
 
-occurs_push : (w : ℕ) (f : List (List ℕ)) (m : List ℕ) → occurs w f ≡ false → stands w m ≡ false → occurs w (f ++ m ∷ []) ≡ false
+pub occurs_push : (w : ℕ) (f : List (List ℕ)) (m : List ℕ) → occurs w f ≡ false → stands w m ≡ false → occurs w (f ++ m ∷ []) ≡ false
 unfolding occurs
 occurs_push w [] m h s = ap (λ b. b || false) s
 occurs_push w (k ∷ f) m h s = let n = neither (stands w k) (occurs w f) h in no_or _ _ n.0 (occurs_push w f m n.1 s)
@@ -192,7 +192,7 @@ unfolding values
 values_push [] f a = refl
 values_push (g ∷ fs) f a = ap (λ (r : List Bool). bool_value g a ∷ r) (values_push fs f a)
 
-outs_push : (w : ℕ) (fs : List (List (List ℕ))) (f : List (List ℕ)) → outs_occur w fs ≡ false → occurs w f ≡ false → outs_occur w (fs ++ f ∷ []) ≡ false
+pub outs_push : (w : ℕ) (fs : List (List (List ℕ))) (f : List (List ℕ)) → outs_occur w fs ≡ false → occurs w f ≡ false → outs_occur w (fs ++ f ∷ []) ≡ false
 unfolding outs_occur
 outs_push w [] f h s = ap (λ b. b || false) s
 outs_push w (g ∷ fs) f h s = let n = neither (occurs w g) (outs_occur w fs) h in no_or _ _ n.0 (outs_push w fs f n.1 s)

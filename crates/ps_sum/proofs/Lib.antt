@@ -3,3 +3,6 @@ pub mod Counting
 pub mod Substitutes
 pub mod Closings
 pub mod Uniqueness
+pub mod Withins
+pub mod Texting
+pub mod Summing

@@ -1,5 +1,5 @@
 -- Two path sums with the same numbers and the same values are the same.
-use Rattle.std.proofs.Common.{◌≡◌, ◌≢◌, ◌≤ℤ◌, ℕ, zero, suc, ◌+◌, ◌%◌, refl, ap, ap₂, sym, ◌∙◌, subst, arith, ◌<◌, ◌≤◌, Bool, true, false, ◌||◌, nat_lt, List, [], ◌∷◌, ◌++◌, length, get_or, ◌⊎◌, inl, inr}
+use Rattle.std.proofs.Common.{◌≡◌, ◌≤ℤ◌, ℕ, zero, suc, ◌+◌, ◌%◌, refl, ap, ap₂, sym, ◌∙◌, subst, arith, ◌<◌, ◌≤◌, Bool, true, false, nat_lt, List, [], ◌∷◌, ◌++◌, length}
 use Rattle.std.proofs.lemmas.Bool.Decides.{nat_tests}
 use Rattle.std.specs.Coded.{le_prop}
 use Rattle.std.proofs.Props.{props}
@@ -15,7 +15,7 @@ use Rattle.ps_phase.proofs.Values.{phase_agree}
 use Rattle.ps_phase.proofs.Adding.{neither}
 use Rattle.ps_sum.specs.Forms.{AllPolys, IsFormed, IsFormed-prop}
 use Rattle.ps_sum.specs.Outs.{values, outs_occur}
-use Rattle.ps_sum.specs.Sums.{path_values, SameValues}
+use Rattle.ps_sum.specs.Sums.{SameValues}
 use Rattle.ps_sum.specs.declared.sums.PathSum.{PathSum}
 
 -- ---- the values of an assignment as lists

@@ -5,15 +5,18 @@
 pub mod counts;
 pub mod faults;
 pub mod lifting;
+pub mod making;
 pub mod outputs;
 mod renaming;
 pub mod sizes;
 pub mod substituting;
 pub mod sums;
+mod texts;
 
 pub use counts::{raw_bool, raw_phase, raw_term};
 pub use faults::{JoinFault, Passed, What};
 pub use lifting::lift;
+pub use making::first_variables;
 pub use outputs::Outputs;
 pub use substituting::subst_phase;
 pub use sums::PathSum;
