@@ -19,3 +19,6 @@ pub use applying::{apply, rewrite};
 pub use faults::{ApplyFault, Refused};
 pub use finding::find;
 pub use steps::{Move, Step};
+
+#[cfg(test)]
+mod tests;
