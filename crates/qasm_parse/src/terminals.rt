@@ -89,7 +89,8 @@ fn sign(b: u8) -> Sort
 /// The bytes of a token.
 pub fn text_of<'a>(bytes: &'a [u8], token: Token) -> &'a [u8]
     requires { IsWithin bytes.now token }
-    ensures { result.now ≡ spelling bytes.now token }
+    ensures value { result.now ≡ spelling bytes.now token }
+    ensures short { length result.now < 4294967296 }
 {
     &bytes[token.from as usize..token.to as usize]
 }

@@ -1,10 +1,8 @@
-use Rattle.std.proofs.Common.{◌≡◌, ℕ, ◌+◌, ◌-◌, ◌<◌, ◌≤◌, arith, List, [], ◌∷◌, ◌++◌, length, refl, sym, ◌∙◌, ap, subst, Ok, Err, ◌≢◌, Some, None, append-nil, take}
+use Rattle.std.proofs.Common.{◌≡◌, ◌+◌, ◌-◌, ◌<◌, arith, [], ◌∷◌, ◌++◌, length, sym, ◌∙◌, ap, subst, append-nil, take}
 use Rattle.std.proofs.lemmas.Result.{err_from_is_err_and}
-use Rattle.qasm_parse.specs.declared.sort.Sort.TheVariants.{Power, Close, Open}
 use Rattle.qasm_parse.specs.declared.sort.Mark.TheVariants.{Neg, Pow, Func}
 use Rattle.qasm_parse.specs.declared.sort.Level.TheVariants.{Sums}
-use Rattle.qasm_parse.specs.declared.fault.ParseFault.TheVariants.{Syntax, Deep}
-use Rattle.qasm_parse.specs.Grammar.{Reads, Answers, done, bad, front, behind, at, sign_of, leaf_of, chain, tail, signed, power, atom, operand, chained, chained_bad, more, more_bad, stop, negated, negated_deep, unsigned, based, based_bad, raised, raised_deep, leaf, grouped, grouped_open, grouped_bad, grouped_deep, called, called_open, called_bad, called_short, called_deep, wrong}
+use Rattle.qasm_parse.specs.Grammar.{Reads, done, bad, front, sign_of, leaf_of, chain, signed, power, atom, operand, chained, chained_bad, more, more_bad, stop, negated, negated_deep, unsigned, based, based_bad, raised, raised_deep, leaf, grouped, grouped_open, grouped_bad, grouped_deep, called, called_open, called_bad, called_short, called_deep, wrong}
 use Rattle.qasm_parse.proofs.Answering.{same_found, passed, one_behind, two_behind, front_front, none_past, cut_back}
 use Rattle.qasm_parse.proofs.expr.+expr.Goals as goal
 use Rattle.qasm_parse.proofs.expr.+expr.Goals.{atom-then-at-sorts+in_default, atom-else-at-sorts}

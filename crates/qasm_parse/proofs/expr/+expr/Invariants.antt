@@ -1,4 +1,4 @@
-use Rattle.std.proofs.Common.{◌≡◌, ℕ, ◌+◌, ◌-◌, ◌*◌, ◌<◌, ◌≤◌, length, List, ◌++◌}
+use Rattle.std.proofs.Common.{◌≡◌, ◌+◌, ◌-◌, ◌*◌, ◌<◌, ◌≤◌, length, List, ◌++◌}
 use Rattle.qasm_parse.specs.declared.sort.Mark.{Mark}
 use Rattle.qasm_parse.specs.Grammar.{Found, front, Reads, chain, tail}
 use Rattle.qasm_parse.proofs.Rank.{rank}

@@ -1,0 +1,123 @@
+//! Rows of single calls.
+
+ghost use Rattle.std.specs.Prelude.{◌≤◌, length};
+
+use super::{Called, Inner, ParseFault, Program, Span, Statement, parse, parse_block};
+use qasm_lex::{Token, tokens};
+use std::alloc::Global;
+use std::test::Fail;
+
+/// The program of a text, or of a block.
+fn read(alloc: Global, block: bool, text: &[u8]) -> Result<Program, ParseFault>
+    requires { length text.now ≤ 16777216 }
+{
+    let cut = match tokens(alloc, text) {
+        Ok(cut) => cut,
+        Err(_) => return Err(ParseFault::Memory),
+    };
+    if block {
+        return parse_block(alloc, text, &cut);
+    }
+    parse(alloc, text, &cut)
+}
+
+/// How many statements a text or a block has, or its fault.
+fn outcome(alloc: Global, block: bool, text: &[u8]) -> Result<usize, ParseFault>
+    requires { length text.now ≤ 16777216 }
+{
+    match read(alloc, block, text) {
+        Ok(program) => Ok(program.statements().len()),
+        Err(fault) => Err(fault),
+    }
+}
+
+const DEEP: &[u8] =
+    b"OPENQASM 2;U(--------------------------------------------------------------------------------------------------------------------------------1,0,0) q;";
+
+const DEEPER: &[u8] =
+    b"OPENQASM 2;U(---------------------------------------------------------------------------------------------------------------------------------1,0,0) q;";
+
+#[test]
+fn texts_have_programs_or_faults(rt: HostRuntime) {
+    let rows: [(&[u8], Result<usize, ParseFault>); 40] = [
+        (b"OPENQASM 3.0;", Err(ParseFault::Version(9))),
+        (
+            b"OPENQASM 2.0; include \"a.inc\";",
+            Err(ParseFault::Include(22)),
+        ),
+        (b"OPENQASM 2.0;", Ok(0)),
+        (b"OPENQASM 2;", Ok(0)),
+        (b"OPENQASM 2.00;", Err(ParseFault::Version(9))),
+        (b"OPENQASM 2. ;", Err(ParseFault::Version(9))),
+        (b"OPENQASM 02;", Err(ParseFault::Version(9))),
+        (b"OPENQASM 2e0;", Err(ParseFault::Version(9))),
+        (b"OPENQASM 2.0", Err(ParseFault::Version(12))),
+        (b"openqasm 2.0;", Err(ParseFault::Version(0))),
+        (b"", Err(ParseFault::Version(0))),
+        (b"OPENQASM 2.0;include \"qelib1.inc\";", Ok(1)),
+        (b"OPENQASM 2.0;include x;", Err(ParseFault::Syntax(21))),
+        (b"OPENQASM 2.0;include", Err(ParseFault::Syntax(20))),
+        (b"OPENQASM 2;qreg q[3];creg c[0];", Ok(2)),
+        (b"OPENQASM 2;qreg q[2.0];", Err(ParseFault::Syntax(18))),
+        (b"OPENQASM 2;qreg U[2];", Err(ParseFault::Syntax(16))),
+        (
+            b"OPENQASM 2;gate g(a,b) x,y {U(a,b,0) x;CX x,y;g(a) x;barrier x,y;}",
+            Ok(1),
+        ),
+        (b"OPENQASM 2;gate g() x {}", Ok(1)),
+        (
+            b"OPENQASM 2;gate g x {x x[0];}",
+            Err(ParseFault::Syntax(24)),
+        ),
+        (
+            b"OPENQASM 2;gate g x {measure x;}",
+            Err(ParseFault::NotUnitary(21)),
+        ),
+        (
+            b"OPENQASM 2;gate g x {opaque x;}",
+            Err(ParseFault::Opaque(21)),
+        ),
+        (
+            b"OPENQASM 2;gate g x {qreg x[1];}",
+            Err(ParseFault::Syntax(21)),
+        ),
+        (b"OPENQASM 2;gate g {}", Err(ParseFault::Syntax(18))),
+        (b"OPENQASM 2;gate g x {", Err(ParseFault::Syntax(21))),
+        (b"OPENQASM 2;x q;y q[0],r[12];z() q;", Ok(3)),
+        (b"OPENQASM 2;x;", Err(ParseFault::Syntax(12))),
+        (b"OPENQASM 2;x q", Err(ParseFault::Syntax(14))),
+        (b"OPENQASM 2;barrier q,r[0];", Ok(1)),
+        (b"OPENQASM 2;barrier;", Err(ParseFault::Syntax(18))),
+        (b"OPENQASM 2;CX q[0],q[1];", Ok(1)),
+        (b"OPENQASM 2;CX q[0];", Err(ParseFault::Syntax(18))),
+        (b"OPENQASM 2;U() q;", Err(ParseFault::Syntax(13))),
+        (b"OPENQASM 2;U(-1^2*pi/(a+b)-sin(x)) q;", Ok(1)),
+        (b"OPENQASM 2;measure q;", Err(ParseFault::NotUnitary(11))),
+        (b"OPENQASM 2;reset q;", Err(ParseFault::NotUnitary(11))),
+        (b"OPENQASM 2;if", Err(ParseFault::NotUnitary(11))),
+        (b"OPENQASM 2;opaque g q;", Err(ParseFault::Opaque(11))),
+        (DEEP, Ok(1)),
+        (DEEPER, Err(ParseFault::Deep(141))),
+    ];
+    for (text, wanted) in rows {
+        assert_eq!(rt; outcome(rt.alloc(), false, text), wanted);
+    }
+}
+
+#[test]
+fn blocks_declare_nothing(rt: HostRuntime) {
+    let rows: [(&[u8], Result<usize, ParseFault>); 9] = [
+        (b"", Ok(0)),
+        (b"x q[0];barrier q;U(0,0,0) q;", Ok(3)),
+        (b"include \"qelib1.inc\";", Err(ParseFault::Syntax(0))),
+        (b"x q; qreg q[1];", Err(ParseFault::Syntax(5))),
+        (b"creg c[1];", Err(ParseFault::Syntax(0))),
+        (b"gate g x {}", Err(ParseFault::Syntax(0))),
+        (b"measure q;", Err(ParseFault::NotUnitary(0))),
+        (b"opaque q;", Err(ParseFault::Opaque(0))),
+        (b"OPENQASM 2;", Err(ParseFault::Syntax(0))),
+    ];
+    for (text, wanted) in rows {
+        assert_eq!(rt; outcome(rt.alloc(), true, text), wanted);
+    }
+}
