@@ -1,16 +1,14 @@
 //! Rows of single calls.
 
-ghost use Rattle.std.specs.Prelude.{◌≤◌, length};
-
-use super::{Called, Inner, ParseFault, Program, Span, Statement, parse, parse_block};
-use qasm_lex::{Token, tokens};
+use super::{Call, ParseFault, Program, Span, Statement, parse, parse_block};
+use qasm_lex::tokens;
 use std::alloc::Global;
-use std::test::Fail;
 
 /// The program of a text, or of a block.
-fn read(alloc: Global, block: bool, text: &[u8]) -> Result<Program, ParseFault>
-    requires { length text.now ≤ 16777216 }
-{
+fn read(alloc: Global, block: bool, text: &[u8]) -> Result<Program, ParseFault> {
+    if text.len() > 16_777_216 {
+        return Err(ParseFault::Memory);
+    }
     let cut = match tokens(alloc, text) {
         Ok(cut) => cut,
         Err(_) => return Err(ParseFault::Memory),
@@ -22,9 +20,7 @@ fn read(alloc: Global, block: bool, text: &[u8]) -> Result<Program, ParseFault>
 }
 
 /// How many statements a text or a block has, or its fault.
-fn outcome(alloc: Global, block: bool, text: &[u8]) -> Result<usize, ParseFault>
-    requires { length text.now ≤ 16777216 }
-{
+fn outcome(alloc: Global, block: bool, text: &[u8]) -> Result<usize, ParseFault> {
     match read(alloc, block, text) {
         Ok(program) => Ok(program.statements().len()),
         Err(fault) => Err(fault),
@@ -119,5 +115,43 @@ fn blocks_declare_nothing(rt: HostRuntime) {
     ];
     for (text, wanted) in rows {
         assert_eq!(rt; outcome(rt.alloc(), true, text), wanted);
+    }
+}
+
+/// The name and the size of a register that a program begins with.
+fn register(program: &Program) -> Option<(Span, Span)> {
+    match program.statements().first() {
+        Some(Statement::Qreg { name, size }) => Some((*name, *size)),
+        _ => None,
+    }
+}
+
+/// The first identifier and the first byte of a call's first parameter.
+fn parameter(call: &Call) -> Option<(Option<Span>, u32)> {
+    match call.params.items().first() {
+        Some(formula) => Some((formula.ids.items().first().copied(), formula.from)),
+        None => None,
+    }
+}
+
+/// The parameter of a call that a program ends with.
+fn last_parameter(program: &Program) -> Option<(Option<Span>, u32)> {
+    match program.statements().last() {
+        Some(Statement::Apply(call)) => parameter(call),
+        _ => None,
+    }
+}
+
+#[test]
+fn parts_have_their_places(rt: HostRuntime) {
+    let name = Span { from: 16, to: 17 };
+    let size = Span { from: 18, to: 19 };
+    let id = Span { from: 23, to: 24 };
+    match read(rt.alloc(), false, b"OPENQASM 2;qreg q[3];g(a) q[1];") {
+        Ok(program) => {
+            assert_eq!(rt; register(&program), Some((name, size)));
+            assert_eq!(rt; last_parameter(&program), Some((Some(id), 23)));
+        }
+        Err(fault) => assert_eq!(rt; fault, ParseFault::Memory),
     }
 }
