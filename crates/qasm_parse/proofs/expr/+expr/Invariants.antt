@@ -13,6 +13,12 @@ decreases-call l = 8 * (length l.sorts.now - l.at)
 abbrev pub decreases-chain : goal.decreases-chain
 decreases-chain l = 8 * (length l.sorts.now - l.at) + 5 + rank l.level
 
+abbrev pub decreases-exponent : goal.decreases-exponent
+decreases-exponent l = 8 * (length l.sorts.now - l.from) + 4
+
+abbrev pub decreases-negated : goal.decreases-negated
+decreases-negated l = 8 * (length l.sorts.now - l.at) + 4
+
 abbrev pub decreases-group : goal.decreases-group
 decreases-group l = 8 * (length l.sorts.now - l.at)
 
