@@ -166,7 +166,7 @@ fn operations(
     requires small { from < 2 ^ 32 }
     ensures { IfOk result (λ v. OpsAre bytes.now tokens.now sorts.now from marks.now v.items) }
 {
-    let mut out = Vec::new(alloc);
+    let mut out = Vec::with_capacity(alloc, marks.len())?;
     let mut place = from;
     let mut id = 0;
     for mark in marks {
@@ -218,7 +218,7 @@ pub fn formulas(
     ensures reads { Listing (λ v. v.items) result (Listed sorts.now (IsFormula bytes.now tokens.now sorts.now) at) }
     ensures goes_on { Onward sorts.now at result }
 {
-    let mut out = Vec::new(alloc);
+    let mut out = Vec::with_capacity(alloc, 1)?;
     let mut from = at;
     loop {
         let (one, to) = formula(alloc, bytes, tokens, sorts, from)?;

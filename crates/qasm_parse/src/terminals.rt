@@ -132,7 +132,7 @@ pub fn terminals(alloc: Global, bytes: &[u8], tokens: &[Token]) -> Result<Vec<So
     requires { All (IsWithin bytes.now) tokens.now }
     ensures { IfOk result (λ v. v.items ≡ sorts_of bytes.now tokens.now) }
 {
-    let mut out = Vec::new(alloc);
+    let mut out = Vec::with_capacity(alloc, tokens.len())?;
     for token in tokens {
         out.push(terminal(bytes, *token))?;
     }

@@ -10,7 +10,7 @@ loop-mark-init c = record {
   ordered = omega arith;
   known = sym (count_none c.args.sorts.now c.args.from (c.args.from - c.args.from) (omega arith));
   few = omega arith;
-  ops = subst (λ xs. OpsAre c.args.bytes.now c.args.tokens.now c.args.sorts.now c.args.from [] xs) (sym c.new-out.ensures.items) no_op;
+  ops = subst (λ xs. OpsAre c.args.bytes.now c.args.tokens.now c.args.sorts.now c.args.from [] xs) (sym c.in_ok-out.ensures.items) no_op;
 }
 
 pub loop-mark-preserved : goal.loop-mark-preserved

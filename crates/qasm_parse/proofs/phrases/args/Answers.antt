@@ -8,8 +8,8 @@ use Rattle.qasm_parse.proofs.phrases.args.Goals as goal
 pub returns-in_err-one-clause-reads : goal.returns-in_err-one-clause-reads
 returns-in_err-one-clause-reads c =
     let ts = c.args.sorts.now in
-    listing_on (λ (v : Vec Arg Global). v.items) (Listed ts (IsArg c.args.tokens.now ts c.args.form) c.args.at) (IsArg c.args.tokens.now ts c.args.form c.loop-out.from) c.in_err-one.field-0.0 c.from_residual.result
-    (err_from_is_err_and c.from_residual.result c.from_residual.ensures.1)
+    listing_on (λ (v : Vec Arg Global). v.items) (Listed ts (IsArg c.args.tokens.now ts c.args.form) c.args.at) (IsArg c.args.tokens.now ts c.args.form c.loop-out.from) c.in_err-one.field-0.0 c.from_residual-in_err-one.result
+    (err_from_is_err_and c.from_residual-in_err-one.result c.from_residual-in_err-one.ensures.1)
     (λ f h. c.loop-out.invariant.rest (miss f) (missing h)) c.in_err-one.ensures.reads
 
 pub loop-out-preserved : goal.loop-out-preserved
