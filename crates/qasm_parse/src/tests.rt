@@ -1,6 +1,7 @@
 //! Rows of single calls.
 
 use super::{Call, ParseFault, Program, Span, Statement, parse, parse_block};
+use qasm_angle::{angle, value};
 use qasm_lex::tokens;
 use std::alloc::Global;
 
@@ -139,6 +140,52 @@ fn last_parameter(program: &Program) -> Option<(Option<Span>, u32)> {
     match program.statements().last() {
         Some(Statement::Apply(call)) => parameter(call),
         _ => None,
+    }
+}
+
+/// The units of the angle that a call's first parameter is.
+fn units_of(alloc: Global, call: &Call) -> Option<u32> {
+    let formula = match call.params.items().first() {
+        Some(formula) => formula,
+        None => return None,
+    };
+    let pair = match value(alloc, &formula.expr, &[]) {
+        Ok(pair) => pair,
+        Err(_) => return None,
+    };
+    match angle(pair) {
+        Ok(angle) => Some(angle.units()),
+        Err(_) => None,
+    }
+}
+
+/// The units of the first parameter of the call that a block ends with.
+fn units(alloc: Global, text: &[u8]) -> Option<u32> {
+    match read(alloc, true, text) {
+        Ok(program) => match program.statements().last() {
+            Some(Statement::Apply(call)) => units_of(alloc, call),
+            _ => None,
+        },
+        Err(_) => None,
+    }
+}
+
+#[test]
+fn signs_bind_in_their_order(rt: HostRuntime) {
+    let rows: [(&[u8], Option<u32>); 10] = [
+        (b"p(2^3^2*pi/1024) q;", Some(536870912)),
+        (b"p((-2^2+5)*pi/4) q;", Some(268435456)),
+        (b"p(2^-1*pi) q;", Some(536870912)),
+        (b"p(8/4/2*pi) q;", Some(1073741824)),
+        (b"p((1-2-3)*pi/8) q;", Some(3758096384)),
+        (b"p(--pi/2) q;", Some(536870912)),
+        (b"p(0.50*pi) q;", Some(536870912)),
+        (b"p(.5e0*pi) q;", Some(536870912)),
+        (b"p(250e-2*pi/5) q;", Some(536870912)),
+        (b"p(2500e-3*pi/5+0*sin(a)) q;", None),
+    ];
+    for (text, wanted) in rows {
+        assert_eq!(rt; units(rt.alloc(), text), wanted);
     }
 }
 
