@@ -9,3 +9,4 @@ pub mod Beginnings
 pub mod Cut
 pub mod Single
 pub mod Whole
+pub mod Within

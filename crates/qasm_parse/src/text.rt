@@ -1,10 +1,11 @@
 //! Statements, blocks and whole texts.
 
-ghost use Rattle.std.specs.Prelude.{◌≡◌, ◌<◌, ◌≤◌, length, All, Ok};
+ghost use Rattle.std.specs.Prelude.{◌≡◌, ◌<◌, ◌≤◌, length, All, Ok, IfOk};
 ghost use Rattle.qasm_lex.specs.Tokens.{Reads};
 ghost use Rattle.qasm_parse.specs.Grammar.{at as terminal};
 ghost use Rattle.qasm_parse.specs.Sorts.{IsWithin};
 ghost use Rattle.qasm_parse.specs.Phrases.{Told, Listing, Onward};
+ghost use Rattle.qasm_parse.specs.Places.{StatementIn};
 ghost use Rattle.qasm_parse.specs.Statements.{IsStatement, IsProgram, IsText, offset, placed, OfText, OfBlock, Known, Only};
 
 use crate::declarations::declaration;
@@ -166,8 +167,12 @@ fn at_offset(bytes: &[u8], tokens: &[Token], fault: ParseFault) -> ParseFault
 pub fn parse(alloc: Global, bytes: &[u8], tokens: &[Token]) -> Result<Program, ParseFault>
     requires small { length bytes.now ≤ 16777216 }
     requires cut { Reads bytes.now 0 (Ok tokens.now) }
+    // The answer is the program of the text, or its first fault by offset.
     ensures reads { Known result (OfText bytes.now tokens.now) }
+    // No other program and no other fault is that of the text.
     ensures only { Only result (OfText bytes.now tokens.now) }
+    // Each place in the program is that of a token: within the text and not empty.
+    ensures places { IfOk result (λ p. All (StatementIn bytes.now) p) }
 {
     let sorts = terminals(alloc, bytes, tokens)?;
     match text(alloc, bytes, tokens, &sorts) {
@@ -183,8 +188,12 @@ pub fn parse(alloc: Global, bytes: &[u8], tokens: &[Token]) -> Result<Program, P
 pub fn parse_block(alloc: Global, bytes: &[u8], tokens: &[Token]) -> Result<Program, ParseFault>
     requires small { length bytes.now ≤ 16777216 }
     requires cut { Reads bytes.now 0 (Ok tokens.now) }
+    // The answer is the program of the block, or its first fault by offset.
     ensures reads { Known result (OfBlock bytes.now tokens.now) }
+    // No other program and no other fault is that of the block.
     ensures only { Only result (OfBlock bytes.now tokens.now) }
+    // Each place in the program is that of a token: within the text and not empty.
+    ensures places { IfOk result (λ p. All (StatementIn bytes.now) p) }
 {
     let sorts = terminals(alloc, bytes, tokens)?;
     match statements(alloc, Whence::Block, bytes, tokens, &sorts, 0) {
