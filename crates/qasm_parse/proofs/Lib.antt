@@ -10,3 +10,4 @@ pub mod Cut
 pub mod Single
 pub mod Whole
 pub mod Within
+pub mod Ranks

@@ -22,13 +22,15 @@ use Rattle.qasm_parse.specs.declared.whence.Whence.{Whence}
 use Rattle.qasm_parse.specs.declared.whence.Whence.TheVariants.{Text as TextWhence, Block}
 use Rattle.qasm_parse.specs.declared.whence.Bits.{Bits}
 use Rattle.qasm_parse.specs.declared.whence.Bits.TheVariants.{Quantum, Classical}
-use Rattle.qasm_parse.specs.Grammar.{at}
+use Rattle.qasm_parse.specs.Grammar.{at, chain}
 use Rattle.qasm_parse.specs.Sorts.{IsWithin, sort_of, sorts_of}
 use Rattle.qasm_parse.specs.Phrases.{Got, got, miss, put, Gives, After, after, elsewhere, Then, then, missed, Listed, final, next, missing, Enclosed, absent, empty, full, IsSpan, there, other, IsArg, bare, plain, indexed, no_name, span_of}
 use Rattle.qasm_parse.specs.Formulas.{IsFormula, formula, no_formula, ids, id_at}
 use Rattle.qasm_parse.specs.Statements.{IsCall, universal, controlled, applied, IsInner, applies, separates, not_unitary, is_opaque, wrong, IsBody, closed, inner, no_inner, IsRegister, made, IsDeclaration, includes, other_text, no_text, quantum, classical, defines, IsStatement, apply, barrier, declares, outside, opaquely, no_statement, IsProgram, over, statement, faulty, IsText, no_word, no_version, no_sign, text, answer, OfText, OfBlock}
 use Rattle.qasm_parse.specs.Places.{SpanIn, ArgIn, FormulaIn, CallIn, InnerIn, StatementIn}
+use Rattle.qasm_parse.specs.declared.sort.Level.TheVariants.{Sums}
 use Rattle.qasm_parse.proofs.Cut.{all_within}
+use Rattle.qasm_parse.proofs.Ranks.{formula_below}
 
 -- a fact on what was got, where something was
 abbrev On : {A : Type 0} → (A → Type 0) → Got A → Type 0
@@ -131,7 +133,7 @@ module _ (bytes : List ℕ) (tk : List Token) (ts : List Sort) (in_it : All (IsW
   ids_in i (suc n) = All-append (SpanIn bytes) (ids tk ts i n) (id_at (at ts (i + n)) (span_of tk (i + n))) (ids_in i n) (one_id (i + n) (at ts (i + n)) refl)
 
   formula_has : Has (FormulaIn bytes) (IsFormula bytes tk ts)
-  formula_has i g (formula {j = j} h o e f) = subst (All (SpanIn bytes)) (sym e) (ids_in i (j - i))
+  formula_has i g (formula {j = j} {ms = ms} {f = f} h o e p) = (subst (All (SpanIn bytes)) (sym e) (ids_in i (j - i)), formula_below bytes tk ts (chain Sums) 128 i j ms f.expr f.ids h o e)
   formula_has i g (no_formula h) = tt
 
   call_has : (form : Form) → Has (CallIn bytes) (IsCall bytes tk ts form)

@@ -1,5 +1,7 @@
 -- The places in a program are those of tokens of the text.
 use Rattle.std.specs.Prelude.{◌<◌, ◌≤◌, ℕ, List, length, Option, Some, None, All}
+use Rattle.qasm_angle.specs.declared.types.Op.{Op}
+use Rattle.qasm_angle.specs.declared.types.Op.TheVariants.{Id}
 use Rattle.qasm_parse.specs.declared.program.Span.{Span}
 use Rattle.qasm_parse.specs.declared.program.Arg.{Arg}
 use Rattle.qasm_parse.specs.declared.program.Formula.{Formula}
@@ -20,8 +22,14 @@ IndexIn bytes None = Unit {0}
 abbrev pub ArgIn : List ℕ → Arg → Type 0
 ArgIn bytes a = SpanIn bytes a.name × IndexIn bytes a.index
 
+-- the number of an identifier is below n
+abbrev pub IdBelow : ℕ → Op → Type 0
+IdBelow n (Id i) = i < n
+IdBelow n op = Unit {0}
+
+-- all identifiers of the expression are among those that are listed
 abbrev pub FormulaIn : List ℕ → Formula → Type 0
-FormulaIn bytes f = All (SpanIn bytes) f.ids
+FormulaIn bytes f = All (SpanIn bytes) f.ids × All (IdBelow (length f.ids)) f.expr
 
 abbrev pub CallIn : List ℕ → Call → Type 0
 CallIn bytes c = SpanIn bytes c.at × All (FormulaIn bytes) c.params × All (ArgIn bytes) c.args

@@ -171,7 +171,8 @@ pub fn parse(alloc: Global, bytes: &[u8], tokens: &[Token]) -> Result<Program, P
     ensures reads { Known result (OfText bytes.now tokens.now) }
     // No other program and no other fault is that of the text.
     ensures only { Only result (OfText bytes.now tokens.now) }
-    // Each place in the program is that of a token: within the text and not empty.
+    // Each place in the program is that of a token, within the text and not empty, and each `Id`
+    // of an expression is below the number of its identifiers.
     ensures places { IfOk result (λ p. All (StatementIn bytes.now) p) }
 {
     let sorts = terminals(alloc, bytes, tokens)?;
@@ -192,7 +193,8 @@ pub fn parse_block(alloc: Global, bytes: &[u8], tokens: &[Token]) -> Result<Prog
     ensures reads { Known result (OfBlock bytes.now tokens.now) }
     // No other program and no other fault is that of the block.
     ensures only { Only result (OfBlock bytes.now tokens.now) }
-    // Each place in the program is that of a token: within the text and not empty.
+    // Each place in the program is that of a token, within the text and not empty, and each `Id`
+    // of an expression is below the number of its identifiers.
     ensures places { IfOk result (λ p. All (StatementIn bytes.now) p) }
 {
     let sorts = terminals(alloc, bytes, tokens)?;
