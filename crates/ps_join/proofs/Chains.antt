@@ -8,9 +8,8 @@ use Rattle.std.proofs.lemmas.Bool.{cases_lt}
 use Rattle.std.proofs.lemmas.List.{get_or_default}
 use Rattle.std.proofs.Math.ListN.{get_or-append}
 use Rattle.ps_mono.specs.Sets.{stands}
-use Rattle.ps_mono.specs.Lists.{nat_eq_true, nat_eq_same, nat_eq_other}
+use Rattle.ps_mono.specs.Lists.{nat_eq_true, nat_eq_same}
 use Rattle.ps_mono.specs.Truth.{with_value}
-use Rattle.ps_ring.specs.Truths.{Truths, bit}
 use Rattle.ps_ring.specs.Readings.{Assignment, second_name}
 use Rattle.ps_bool.specs.Polys.{bool_value, occurs, IsPoly}
 use Rattle.ps_bool.proofs.Unique.{bool_value-agree}
@@ -21,7 +20,7 @@ use Rattle.ps_phase.proofs.Adding.{neither, no_or}
 use Rattle.ps_phase.proofs.Values.{phase_agree}
 use Rattle.ps_sum.specs.Counts.{raw_phase, raw_bool}
 use Rattle.ps_sum.specs.Forms.{AllPolys}
-use Rattle.ps_sum.specs.Outs.{values, outs_occur}
+use Rattle.ps_sum.specs.Outs.{outs_occur}
 use Rattle.ps_sum.specs.declared.faults.What.TheVariants.{Terms}
 use Rattle.ps_sum.specs.declared.faults.JoinFault.{JoinFault}
 use Rattle.ps_sum.specs.declared.faults.JoinFault.TheVariants.{Passed, Memory}
@@ -29,7 +28,7 @@ use Rattle.ps_join.specs.Joining.{told, Chain, PhaseAfter, BoolAfter, PhaseNamed
 use Rattle.ps_join.specs.Faults.{IsOver, IsChainFault}
 use Rattle.ps_join.specs.Naming.{Agrees}
 use Rattle.ps_join.specs.Parts.{PhasePart, BoolPart, OutputPart, OutputParts}
-use Rattle.ps_join.proofs.Outputs.{get_value, get_free, get_poly, var_poly, var_free}
+use Rattle.ps_join.proofs.Outputs.{get_value, get_free, var_poly, var_free}
 use Rattle.ps_join.proofs.NamedParts.{name_of_own, name_past, name_front}
 
 clash : {b : Bool} → b ≡ true → b ≡ false → ⊥
@@ -315,8 +314,11 @@ kept_fits n m1 m2 i fs f g h w r e p o d l =
 pub kept_over : (n m1 m2 i : ℕ) (fs : List (List (List ℕ))) (f g : List (List ℕ)) (e : JoinFault) → i < n → length fs ≡ n → n + n + m1 + m2 ≤ 512 → f ≡ get_or fs i f → g ≡ (i ∷ []) ∷ [] → IsOver (length f) e → IsChainFault (OutputChain n m1 m2 fs g) e
 kept_over n m1 m2 i fs f g (Passed passed) h w r e d o = (
   told (length f),
-  (subst (λ (x : List (List ℕ)). OutputChain n m1 m2 fs x (Some (told (length f)))) (sym d)
-      (((n + (m1 + m2) + i) ∷ []) ∷ [], (input_named n m1 m2 i h r, var_stop fs (n + (m1 + m2)) (n + (m1 + m2) + i) i f (omega (arith, w)) refl (omega arith) e o.0)), o.1),
+  (
+    subst (λ (x : List (List ℕ)). OutputChain n m1 m2 fs x (Some (told (length f)))) (sym d)
+        (((n + (m1 + m2) + i) ∷ []) ∷ [], (input_named n m1 m2 i h r, var_stop fs (n + (m1 + m2)) (n + (m1 + m2) + i) i f (omega (arith, w)) refl (omega arith) e o.0)),
+    o.1,
+  ),
 )
 kept_over n m1 m2 i fs f g Memory h w r e d o = tt
 

@@ -17,11 +17,11 @@ use Rattle.ps_prim.specs.Sums.{LeafSum, Denotes}
 use Rattle.ps_prim.proofs.Leaves.{leaf_denotes}
 use Rattle.ps_prim.proofs.PlainSums.{identity_denotes}
 use Rattle.ps_bool.specs.Polys.{bool_value, occurs, IsPoly}
-use Rattle.ps_bool.proofs.Laws.{bool_value-var, occurs-var}
+use Rattle.ps_bool.proofs.Laws.{bool_value-var}
 use Rattle.ps_phase.specs.declared.terms.Term.{Term}
 use Rattle.ps_phase.specs.Phases.{phase_value, phase_occurs, IsPhasePoly}
-use Rattle.ps_phase.proofs.Adding.{neither, no_or}
-use Rattle.ps_sum.specs.Forms.{AllPolys, IsFormed}
+use Rattle.ps_phase.proofs.Adding.{no_or}
+use Rattle.ps_sum.specs.Forms.{AllPolys}
 use Rattle.ps_sum.specs.Outs.{values, outs_occur}
 use Rattle.ps_sum.specs.Sums.{path_values}
 use Rattle.ps_sum.specs.declared.sums.PathSum.{PathSum}
@@ -227,7 +227,7 @@ rotating_value theta phi lambda q n ts p r e a =
     let late : holds r.m5 a ≡ (a n && a (suc n)) = holds_union r.m2 r.m3 r.m5 r.late a ∙ ap₂ (λ (b c : Bool). b && c) y z in
     let V : (b c d f g k : Bool) → ℕ = λ b c d f g k. times b r.w0 + (times c r.w1 + (times d r.w2 + (times f r.w3 + (times g r.h + (times k r.h + 0))))) in
     let same : V (holds r.m0 a) (holds r.m1 a) (holds r.m2 a) (holds r.m3 a) (holds r.m4 a) (holds r.m5 a) ≡ V true (a q) (a n) (a (suc n)) (a q && a n) (a n && a (suc n)) =
-        rw (none, x, y, z, early, late) refl in
+    rw (none, x, y, z, early, late) refl in
     shifted (phase_value p a) (phase_value ts a) theta (e a)
     ∙ ap (λ v. (v + theta) % 4294967296) (ap (λ (k : List Term). phase_value k a) r.terms ∙ same)
     ∙ rotated theta phi lambda r.w0 r.w1 r.w2 r.w3 r.h (a q) (a n) (a (suc n)) r.start_is r.input_is r.first_is r.second_is r.half_is

@@ -1,11 +1,8 @@
 -- The parts of a join put together.
-use Rattle.std.proofs.Common.{◌≡◌, ◌≢◌, ℕ, zero, suc, ◌+◌, ◌*◌, ◌%◌, refl, ap, ap₂, sym, ◌∙◌, subst, arith, ◌<◌, ◌≤◌, Bool, true, false, ◌||◌, List, [], ◌∷◌, ◌++◌, length, take, get_or, set, length-append, Option, Some, None, ◌⊎◌, inl, inr}
-use Rattle.std.proofs.Math.IntN.{ℤ, pos, ◌+ℤ◌}
-use Rattle.std.proofs.Math.Seq.{get_or-append_seam}
-use Rattle.std.proofs.Math.ListN.{get_or-append}
+use Rattle.std.proofs.Common.{◌≡◌, ℕ, suc, ◌+◌, ◌%◌, refl, ap, ap₂, sym, ◌∙◌, subst, arith, ◌<◌, ◌≤◌, Bool, true, false, ◌||◌, List, [], ◌∷◌, ◌++◌, length, get_or, Option, Some, None, ◌⊎◌, inl, inr}
+use Rattle.std.proofs.Math.IntN.{ℤ, ◌+ℤ◌}
 use Rattle.std.proofs.lemmas.Bool.{cases_lt}
-use Rattle.std.proofs.lemmas.List.{length-set, get_or-set_same, get_or-set_other, take_all}
-use Rattle.ps_ring.specs.Truths.{Truths, bit}
+use Rattle.ps_ring.specs.Truths.{Truths}
 use Rattle.ps_ring.specs.Readings.{Assignment, second_name, read_sum, JoinReading, IsUnder}
 use Rattle.ps_ring.specs.Joins.{JoinedSum}
 use Rattle.ps_ring.proofs.ReadJoins.{join_read}
@@ -17,7 +14,7 @@ use Rattle.ps_bool.proofs.Unique.{bool_value-agree}
 use Rattle.ps_bool.proofs.Laws.{bool_value-var}
 use Rattle.ps_phase.specs.declared.terms.Term.{Term}
 use Rattle.ps_phase.specs.Phases.{phase_value, phase_occurs, IsPhasePoly}
-use Rattle.ps_phase.proofs.Adding.{neither, no_or}
+use Rattle.ps_phase.proofs.Adding.{no_or}
 use Rattle.ps_phase.proofs.Values.{phase_agree}
 use Rattle.ps_sum.specs.Forms.{AllPolys}
 use Rattle.ps_sum.specs.Outs.{values, outs_occur}
@@ -34,7 +31,7 @@ use Rattle.ps_join.specs.Faults.{IsChainFault, IsJoinFault}
 use Rattle.ps_join.proofs.Outputs.{get_value, get_free, get_poly}
 use Rattle.ps_join.proofs.NamedParts.{name_front}
 use Rattle.ps_join.specs.Naming.{Agrees}
-use Rattle.ps_join.specs.Parts.{PhasePart, BoolPart, OutputPart, OutputParts, IsParts, chosen, Placed}
+use Rattle.ps_join.specs.Parts.{PhasePart, OutputPart, OutputParts, chosen, Placed}
 
 -- ---- outputs put in their places, from the last on
 pub record Placing (fs : List (List (List ℕ))) (qs rest : List (Option (List (List ℕ)))) (outs : List (List (List ℕ))) : Type 0 where

@@ -1,26 +1,18 @@
 -- One sum, and one limit.
-use Rattle.std.proofs.Common.{◌≡◌, ◌≢◌, ℕ, zero, suc, ◌+◌, ◌*◌, ◌%◌, refl, ap, ap₂, sym, ◌∙◌, subst, arith, ◌<◌, ◌≤◌, Bool, true, false, cond, ◌&&◌, min, List, [], ◌∷◌, ◌++◌, length, take, drop, set, Option, Some, None, ◌⊎◌, inl, inr}
-use Rattle.std.proofs.Math.IntN.{ℤ, pos, ◌+ℤ◌}
-use Rattle.ps_ring.specs.Truths.{Truths, bit}
-use Rattle.ps_ring.specs.Readings.{Assignment, second_name}
-use Rattle.ps_ring.specs.Joins.{PlainSum, TurnedSum, JoinedSum}
+use Rattle.std.proofs.Common.{◌≡◌, ℕ, zero, suc, ◌+◌, ◌%◌, refl, ap, sym, ◌∙◌, subst, arith, ◌<◌, ◌≤◌, Bool, List, [], ◌∷◌, ◌++◌, length, Option, Some, None, ◌⊎◌, inl, inr}
+use Rattle.ps_ring.specs.Truths.{Truths}
+use Rattle.ps_ring.specs.Joins.{PlainSum, TurnedSum}
 use Rattle.ps_prim.specs.declared.prims.Primitive.{Primitive as Prim}
 use Rattle.ps_prim.specs.declared.prims.Primitive.TheVariants.{U, Cx}
-use Rattle.ps_prim.specs.Amplitudes.{exchanged}
-use Rattle.ps_prim.specs.Sums.{LeafSum}
-use Rattle.ps_mono.specs.Truth.{with_value}
-use Rattle.ps_bool.specs.Polys.{bool_value, IsPoly}
 use Rattle.ps_bool.proofs.Unique.{one_form}
 use Rattle.ps_phase.specs.declared.terms.Term.{Term}
-use Rattle.ps_phase.specs.Phases.{phase_value, IsPhasePoly}
 use Rattle.ps_phase.proofs.Unique.{same_terms}
 use Rattle.ps_sum.specs.Counts.{raw_phase, raw_bool}
-use Rattle.ps_sum.specs.Sums.{path_values, SameValues}
+use Rattle.ps_sum.specs.Sums.{path_values}
 use Rattle.ps_sum.specs.declared.sums.PathSum.{PathSum}
-use Rattle.ps_sum.specs.declared.faults.Passed.{Passed}
-use Rattle.ps_sum.specs.declared.faults.What.TheVariants.{Terms, Variables}
+use Rattle.ps_sum.specs.declared.faults.What.TheVariants.{Terms}
 use Rattle.ps_sum.proofs.Uniqueness.{sum_only}
-use Rattle.ps_join.specs.Joining.{IsLeafOf, IsIdentityOf, IsJoinOf, PhaseAfter, BoolAfter, PhaseNamed, BoolNamed, told, Chain, PhaseChain, OutputChain, OutputChains, Then, JoinChain, named_count, JoinFits, JoinPasses}
+use Rattle.ps_join.specs.Joining.{PhaseAfter, BoolAfter, told, Chain, PhaseChain, OutputChain, OutputChains, Then, JoinChain}
 use Rattle.ps_join.specs.Laws.{OneLeaf, OneIdentity, OneJoin, OnePassed, FitsOrPasses}
 
 -- ---- one sum

@@ -1,5 +1,5 @@
 -- What the phase and the outputs of the second sum come to in a join.
-use Rattle.std.specs.Prelude.{ℕ, suc, ◌≡◌, ◌+◌, ◌%◌, ◌<◌, ◌≤◌, Bool, false, List, [], ◌∷◌, Option, Some, None, get_or, length}
+use Rattle.std.specs.Prelude.{ℕ, ◌≡◌, ◌+◌, ◌%◌, ◌<◌, ◌≤◌, false, List, [], ◌∷◌, Option, Some, None, get_or, length}
 use Rattle.ps_ring.specs.Readings.{Assignment, second_name}
 use Rattle.ps_bool.specs.Polys.{bool_value, occurs, IsPoly}
 use Rattle.ps_phase.specs.declared.terms.Term.{Term}

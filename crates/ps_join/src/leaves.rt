@@ -59,13 +59,7 @@ pub fn identity(alloc: Global, n: u32) -> Result<PathSum, AllocError>
 }
 
 // U at theta 0: the phase of the input alone.
-fn turn(
-    alloc: Global,
-    phi: Angle,
-    lambda: Angle,
-    q: u32,
-    n: u32,
-) -> Result<PathSum, AllocError>
+fn turn(alloc: Global, phi: Angle, lambda: Angle, q: u32, n: u32) -> Result<PathSum, AllocError>
     requires width { (1 ≤ n) × (n ≤ 64) }
     requires within { q < n }
     ensures { IfOk result (λ s. IsLeafOf n (U 0 phi lambda q) s) }
@@ -125,7 +119,7 @@ fn rotation_phase(
         term(&first, theta.whole()),
         term(&second, phi.whole().add(Phase::of(1 << 30))),
         term(&input.union(&first), half),
-        term(&first.union(&second), half)
+        term(&first.union(&second), half),
     ]?;
     PhasePoly::gather(terms)
 }

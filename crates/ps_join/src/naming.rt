@@ -52,11 +52,7 @@ impl Names {
         ensures value { result ≡ second_name self.now.n self.now.m1 self.now.m2 v }
         ensures small { result < 512 }
     {
-        if v < self.n {
-            self.own(v)
-        } else {
-            v + self.m1
-        }
+        if v < self.n { self.own(v) } else { v + self.m1 }
     }
 }
 

@@ -8,11 +8,11 @@ ghost use Rattle.ps_join.specs.Joining.{PhaseAfter, BoolAfter, PhaseChain, Outpu
 ghost use Rattle.ps_join.specs.Faults.{IsOver, IsChainFault};
 ghost use Rattle.ps_join.specs.Parts.{PhasePart, BoolPart, OutputPart, OutputParts};
 
-use super::naming::{bool_support, named_bool, named_phase, phase_support, Names};
+use super::naming::{Names, bool_support, named_bool, named_phase, phase_support};
 use ps_bool::BoolPoly;
 use ps_mono::Mono;
 use ps_phase::PhasePoly;
-use ps_sum::{raw_bool, raw_phase, subst_phase, JoinFault, Passed, What};
+use ps_sum::{JoinFault, Passed, What, raw_bool, raw_phase, subst_phase};
 use std::alloc::{AllocError, Global};
 
 /// The most terms that one replacement may make, before any are added.
@@ -115,12 +115,7 @@ fn made_in_bool(poly: &BoolPoly, v: u16, by: &BoolPoly, may: bool) -> u64
 }
 
 // `by` in place of variable `v`; `may` tells whether `v` may stand in the polynomial.
-fn replace_bool(
-    poly: BoolPoly,
-    v: u16,
-    by: &BoolPoly,
-    may: bool,
-) -> Result<BoolPoly, JoinFault>
+fn replace_bool(poly: BoolPoly, v: u16, by: &BoolPoly, may: bool) -> Result<BoolPoly, JoinFault>
     requires small { v < 512 }
     requires form { IsPoly poly }
     requires free { may ≡ false → occurs v poly ≡ false }

@@ -1,8 +1,7 @@
-use Rattle.std.proofs.Common.{◌≡◌, refl, rules, arith, sym, ◌∙◌, ap, subst, ℕ, ◌<◌, ◌≤◌, ◌+◌, List, length, false}
+use Rattle.std.proofs.Common.{◌≡◌, refl, rules, ◌∙◌}
 use mir.Syntax.{w32}
 use mir.Val.{SFits}
 use Rattle.std.proofs.lemmas.List.{take_all}
-use Rattle.ps_sum.specs.Forms.{IsFormed}
 use Rattle.ps_sum.proofs.Uniqueness.{sum_ext}
 use Rattle.ps_join.proofs.Merging.{one_k, copied_parts}
 use Rattle.ps_join.proofs.joins.copied.Goals as goal

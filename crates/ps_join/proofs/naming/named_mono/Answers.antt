@@ -1,4 +1,4 @@
-use Rattle.std.proofs.Common.{subst, ℕ, ◌<◌, arith}
+use Rattle.std.proofs.Common.{subst, ℕ, ◌<◌}
 use Rattle.ps_join.proofs.NamedParts.{as_start, as_more, as_end, var_below}
 use Rattle.ps_join.proofs.naming.named_mono.Goals as goal
 

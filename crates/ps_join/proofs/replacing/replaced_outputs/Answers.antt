@@ -1,4 +1,4 @@
-use Rattle.std.proofs.Common.{arith, subst, sym, ℕ, ◌<◌}
+use Rattle.std.proofs.Common.{arith}
 use Rattle.ps_join.proofs.Chains.{outputs_start, outputs_step, outputs_parts, outputs_fit, outputs_over, output_below}
 use Rattle.ps_join.proofs.replacing.replaced_outputs.Goals as goal
 
