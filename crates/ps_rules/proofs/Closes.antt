@@ -1,6 +1,5 @@
 -- Names close up in place, and order stays.
-use Rattle.std.proofs.Common.{◌≡◌, ◌≢◌, ℕ, zero, suc, ◌+◌, ◌-◌, ◌%◌, refl, ap, ap₂, sym, ◌∙◌, subst, arith, ◌<◌, ◌≤◌, Bool, true, false, cond, not, nat_eq, nat_lt, ◌&&◌, ◌||◌, List, [], ◌∷◌, ◌++◌, length, map, take, set, get_or, nat_cmp, ◌⊎◌, inl, inr, Ordering, Less, Equal, Greater}
-use Rattle.std.proofs.lemmas.Bool.{cases_lt}
+use Rattle.std.proofs.Common.{◌≡◌, ◌≢◌, ℕ, zero, suc, ◌+◌, ◌-◌, refl, ap, ap₂, sym, ◌∙◌, subst, arith, ◌<◌, ◌≤◌, Bool, true, false, cond, nat_eq, nat_lt, ◌&&◌, ◌||◌, List, [], ◌∷◌, ◌++◌, length, take, set, get_or, nat_cmp, ◌⊎◌, inl, inr}
 use Rattle.std.proofs.lemmas.Bool.Decides.{nat_tests}
 use Rattle.std.proofs.lemmas.List.{take_more, take_all, get_or-set_other}
 use Rattle.std.proofs.Math.ListN.{length-set}
@@ -8,12 +7,12 @@ use Rattle.std.proofs.Math.Seq.{take-suc-set}
 use Rattle.std.specs.Cmp.Lexicographic.{slice_cmp}
 use Rattle.std.specs.Ordering.{ordering_then}
 use Rattle.ps_mono.specs.Sets.{holds, stands, mono_cmp, IsVarSet, Climbing, Above, Below}
-use Rattle.ps_mono.specs.Lists.{nat_eq_true, nat_eq_same, same_set}
+use Rattle.ps_mono.specs.Lists.{nat_eq_same, same_set}
 use Rattle.ps_mono.specs.Truth.{times, differ}
 use Rattle.ps_mono.proofs.Laws.{set_climbing, set_all_below, climbing_set}
 use Rattle.ps_bool.specs.Polys.{bool_value, occurs, Before, Ascending, AllSets, IsPoly}
 use Rattle.ps_phase.specs.declared.terms.Term.{Term}
-use Rattle.ps_phase.specs.Phases.{phase_value, phase_occurs, TermBefore, IsTerm, IsPhasePoly}
+use Rattle.ps_phase.specs.Phases.{phase_value, phase_occurs, TermBefore, IsPhasePoly}
 use Rattle.ps_phase.specs.Adding.{terms_where, terms_without}
 use Rattle.ps_phase.proofs.Adding.{neither}
 use Rattle.ps_phase.proofs.Scaling.{selected_form}

@@ -1,5 +1,5 @@
 -- What is remembered of a variable decides which steps take it away.
-use Rattle.std.proofs.Common.{◌≡◌, ◌≢◌, ℕ, zero, suc, ◌+◌, ◌-◌, refl, ap, ap₂, sym, ◌∙◌, subst, arith, ◌<◌, ◌≤◌, Bool, true, false, cond, not, nat_eq, nat_lt, ◌&&◌, ◌||◌, List, [], ◌∷◌, ◌++◌, length, take, get_or, ◌⊎◌, inl, inr, Less}
+use Rattle.std.proofs.Common.{◌≡◌, ◌≢◌, ℕ, zero, suc, ◌+◌, ◌-◌, refl, ap, ap₂, sym, ◌∙◌, subst, arith, ◌<◌, ◌≤◌, Bool, true, false, cond, not, nat_eq, nat_lt, ◌&&◌, ◌||◌, List, [], ◌∷◌, ◌++◌, length, take, get_or, ◌⊎◌, inl, inr}
 use Rattle.std.specs.Cmp.Lexicographic.{pointwise}
 use Rattle.std.proofs.lemmas.Bool.{cases_lt}
 use Rattle.std.proofs.lemmas.Bool.Decides.{nat_tests}
@@ -12,15 +12,13 @@ use Rattle.ps_phase.specs.declared.terms.Term.{Term}
 use Rattle.ps_phase.specs.Phases.{phase_occurs, coefficient, TermBefore, IsPhasePoly}
 use Rattle.ps_phase.proofs.Values.{mono_eq}
 use Rattle.ps_sum.specs.declared.sums.PathSum.{PathSum}
-use Rattle.ps_sum.specs.Outs.{outs_occur}
-use Rattle.ps_rules.specs.declared.steps.Step.{Step}
 use Rattle.ps_rules.specs.declared.steps.Step.TheVariants.{Elim, Hh, Omega}
 use Rattle.ps_rules.specs.declared.sights.Kind.{Kind}
 use Rattle.ps_rules.specs.declared.sights.Kind.TheVariants.{Free, Halves, Quarter, Other}
 use Rattle.ps_rules.specs.Terms.{EachWith, IsHalf, both}
-use Rattle.ps_rules.specs.Rules.{IsInner, ElimApplies, HhApplies, OmegaApplies, Applies, first_of, second_of}
-use Rattle.ps_rules.specs.Sights.{IsQuarter, IsFine, in_pair, in_wide, Partners, IsFree, IsHalves, IsQuartered, IsSpoilt, SeenAs, IsPartner, NoneAt, FirstAt}
-use Rattle.ps_rules.proofs.Firsts.{both_first, both_second, alone_stands, each_coefficient, occurs_coefficient, elim_not_hh, elim_not_omega, hh_not_omega}
+use Rattle.ps_rules.specs.Rules.{ElimApplies, HhApplies, OmegaApplies}
+use Rattle.ps_rules.specs.Sights.{IsQuarter, IsFine, in_pair, in_wide, IsFree, IsHalves, IsQuartered, IsSpoilt, SeenAs, IsPartner, NoneAt, FirstAt}
+use Rattle.ps_rules.proofs.Firsts.{both_first, both_second, alone_stands, each_coefficient, elim_not_hh, elim_not_omega, hh_not_omega}
 use Rattle.ps_rules.proofs.Keeps.{each_weak}
 use Rattle.ps_rules.proofs.Seeing.{off, each_none}
 
@@ -328,9 +326,6 @@ hh_kind S y z Other pairs wide l h a = absurd (spoilt_none S y h (Hh y z) refl a
 -- an answer that is false
 pub refused : (P : Type 0) → (P → ⊥) → (false ≡ true → P) × (P → false ≡ true)
 refused P n = (λ e. absurd (off e refl), λ p. absurd (n p))
-
-pub accepted : (P : Type 0) → P → (true ≡ true → P) × (P → true ≡ true)
-accepted P p = (λ e. p, λ q. refl)
 
 pub hh_answer : (S : PathSum) (y z : ℕ) (r : Bool) (pairs wide : List ℕ) → y < S.m → IsHalves (S.n + y) S.outs S.phase pairs wide → ((r ≡ true → (stands (S.n + z) pairs ≡ true) × IsPartner S.n y wide (S.n + z)) × ((stands (S.n + z) pairs ≡ true) × IsPartner S.n y wide (S.n + z) → r ≡ true))
     → (r ≡ true → HhApplies S y z) × (HhApplies S y z → r ≡ true)

@@ -2,7 +2,6 @@
 use Rattle.std.proofs.Common.{◌≡◌, ◌≢◌, ℕ, ◌+◌, refl, ap, sym, ◌∙◌, subst, arith, ◌<◌, ◌≤◌, Bool, true, false, cond, nat_eq, nat_lt, ◌||◌, List, [], ◌∷◌, ◌⊎◌, inl, inr}
 use Rattle.std.specs.Cmp.Lexicographic.{pointwise}
 use Rattle.std.proofs.lemmas.Bool.{cases_lt}
-use Rattle.std.proofs.lemmas.Bool.Decides.{nat_tests}
 use Rattle.ps_mono.specs.Sets.{stands}
 use Rattle.ps_mono.specs.Lists.{nat_eq_same}
 use Rattle.ps_phase.specs.declared.terms.Term.{Term}
@@ -12,7 +11,7 @@ use Rattle.ps_sum.specs.declared.sums.PathSum.{PathSum}
 use Rattle.ps_rules.specs.declared.steps.Step.{Step}
 use Rattle.ps_rules.specs.declared.steps.Step.TheVariants.{Elim, Hh, Omega}
 use Rattle.ps_rules.specs.Terms.{EachWith, IsHalf, both}
-use Rattle.ps_rules.specs.Rules.{ElimApplies, HhApplies, OmegaApplies, Applies, FirstStep, first_of, second_of}
+use Rattle.ps_rules.specs.Rules.{ElimApplies, HhApplies, OmegaApplies, Applies, FirstStep, first_of}
 
 true_or : (p q : Bool) → p ≡ true → (p || q) ≡ true
 true_or p q e = ap (λ b. b || q) e

@@ -1,6 +1,6 @@
 -- Each step keeps the number of a sum at every input and output.
 use mathlib.Core.Bool.{xor}
-use Rattle.std.proofs.Common.{◌≡◌, ◌≢◌, ℕ, suc, ◌+◌, ◌-◌, ◌%◌, refl, ap, ap₂, sym, ◌∙◌, subst, arith, ◌<◌, ◌≤◌, Bool, true, false, cond, not, ◌&&◌, nat_eq, nat_lt, ◌||◌, List, [], ◌∷◌, ◌++◌, length, ◌⊎◌, inl, inr}
+use Rattle.std.proofs.Common.{◌≡◌, ◌≢◌, ℕ, suc, ◌+◌, ◌%◌, refl, ap, ap₂, sym, ◌∙◌, subst, arith, ◌<◌, ◌≤◌, Bool, true, false, cond, not, ◌&&◌, nat_eq, nat_lt, List, [], ◌∷◌, ◌++◌, length, ◌⊎◌, inl, inr}
 use Rattle.std.proofs.Math.IntN.{ℤ, pos, ◌+ℤ◌}
 use Rattle.std.proofs.lemmas.Bool.Decides.{nat_tests}
 use Rattle.ps_mono.specs.Sets.{holds, stands}
@@ -26,7 +26,7 @@ use Rattle.ps_sum.proofs.Closings.{length_values}
 use Rattle.ps_rules.specs.declared.steps.Step.{Step}
 use Rattle.ps_rules.specs.declared.steps.Step.TheVariants.{Elim, Hh, Omega}
 use Rattle.ps_rules.specs.Terms.{EachWith, IsHalf, both, others}
-use Rattle.ps_rules.specs.Rules.{ElimApplies, HhApplies, OmegaApplies, Applies, rest_value, Lowered, ElimApplied, HhApplied, OmegaApplied, Applied}
+use Rattle.ps_rules.specs.Rules.{ElimApplies, HhApplies, OmegaApplies, Applies, rest_value, ElimApplied, HhApplied, OmegaApplied, Applied}
 use Rattle.ps_rules.proofs.Firsts.{both_first, alone_stands}
 use Rattle.ps_rules.proofs.Splits.{with_same, with_agree, split_at, phase_apart, values_apart}
 

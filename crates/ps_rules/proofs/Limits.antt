@@ -1,12 +1,12 @@
 -- A step passes the limit with one number, or not at all.
-use Rattle.std.proofs.Common.{◌≡◌, ℕ, zero, suc, ◌+◌, ◌-◌, ◌%◌, ◌^◌, refl, ap, ap₂, sym, ◌∙◌, subst, arith, ◌<◌, ◌≤◌, Bool, true, false, cond, List, [], ◌∷◌, ◌++◌, length, take, get_or, map, min, add-zero, length-append, ◌⊎◌, inl, inr, Option, Some, None, MatchOption}
+use Rattle.std.proofs.Common.{◌≡◌, ℕ, zero, suc, ◌+◌, ◌%◌, ◌^◌, refl, ap, sym, ◌∙◌, subst, arith, ◌<◌, ◌≤◌, Bool, true, false, cond, List, [], ◌∷◌, ◌++◌, length, take, get_or, map, min, add-zero, length-append, ◌⊎◌, inl, inr, Option, Some, None, MatchOption}
 use Rattle.std.proofs.lemmas.Bool.{cases_lt}
 use Rattle.std.proofs.lemmas.List.{take_more, take_all}
 use Rattle.ps_mono.specs.Sets.{stands}
 use Rattle.ps_mono.specs.Truth.{differ}
 use Rattle.ps_phase.specs.declared.terms.Term.{Term}
 use Rattle.ps_phase.specs.Adding.{terms_where, terms_without}
-use Rattle.ps_sum.specs.Counts.{binomial, subsets, raw_term, raw_phase, raw_bool}
+use Rattle.ps_sum.specs.Counts.{binomial, subsets, raw_term, raw_phase}
 use Rattle.ps_sum.proofs.Counting.{Power, raw_is, binomial_zero}
 use Rattle.ps_rules.specs.Plans.{IsFirstTold}
 use Rattle.ps_bool.proofs.Unique.{one_form}
@@ -14,7 +14,7 @@ use Rattle.ps_sum.specs.declared.sums.PathSum.{PathSum}
 use Rattle.ps_sum.specs.declared.faults.Passed.{Passed}
 use Rattle.ps_sum.specs.declared.faults.What.TheVariants.{Terms}
 use Rattle.ps_rules.specs.declared.steps.Step.{Step}
-use Rattle.ps_rules.specs.Rules.{IsStepPoly, FirstAbove, NoneAbove, PassesAt, StepPasses, FitsAt, StepFits, step_counts}
+use Rattle.ps_rules.specs.Rules.{IsStepPoly, FirstAbove, NoneAbove, StepPasses, StepFits, step_counts}
 
 one_above : (xs : List ℕ) (c d : ℕ) → FirstAbove xs c → FirstAbove xs d → c ≡ d
 one_above [] c d p q = absurd p

@@ -1,6 +1,6 @@
 -- A list whose elements are replaced one after another.
-use Rattle.std.proofs.Common.{◌≡◌, Bool, false, ℕ, zero, suc, ◌+◌, refl, ap, ap₂, sym, ◌∙◌, subst, arith, ◌<◌, ◌≤◌, add-one, List, [], ◌∷◌, ◌++◌, length, map, take, drop, set, get_or, append-nil, length-append, drop_of_length-le}
-use Rattle.std.proofs.lemmas.List.{take_all, take-append-le}
+use Rattle.std.proofs.Common.{◌≡◌, false, ℕ, zero, suc, ◌+◌, refl, ap, ap₂, sym, ◌∙◌, arith, ◌<◌, ◌≤◌, add-one, List, [], ◌∷◌, ◌++◌, length, map, take, drop, set, get_or, append-nil, drop_of_length-le}
+use Rattle.std.proofs.lemmas.List.{take_all}
 use Rattle.ps_mono.specs.Sets.{stands}
 use Rattle.ps_bool.specs.Polys.{occurs}
 use Rattle.ps_sum.specs.Outs.{outs_occur}

@@ -17,10 +17,9 @@ use Rattle.ps_phase.specs.Phases.{phase_occurs, coefficient}
 use Rattle.ps_phase.proofs.Adding.{neither, no_or}
 use Rattle.ps_sum.specs.declared.sums.PathSum.{PathSum}
 use Rattle.ps_sum.proofs.Lifts.{bool_push}
-use Rattle.ps_rules.specs.declared.steps.Step.{Step}
 use Rattle.ps_rules.specs.declared.steps.Step.TheVariants.{Elim, Hh, Omega}
 use Rattle.ps_rules.specs.Terms.{both, others}
-use Rattle.ps_rules.specs.Rules.{HhApplies, OmegaApplies, IsStepPoly, rest_value}
+use Rattle.ps_rules.specs.Rules.{HhApplies}
 use Rattle.ps_rules.specs.Plans.{IsQuotient}
 use Rattle.ps_rules.proofs.Keeps.{others_free}
 

@@ -1,5 +1,5 @@
 -- One term more in what is remembered of a variable.
-use Rattle.std.proofs.Common.{◌≡◌, ◌≢◌, ℕ, zero, suc, ◌+◌, ◌%◌, refl, ap, ap₂, sym, ◌∙◌, subst, arith, ◌<◌, ◌≤◌, Bool, true, false, cond, not, nat_eq, ◌&&◌, ◌||◌, List, [], ◌∷◌, ◌++◌, length, get_or, length-append, ◌⊎◌, inl, inr, Less}
+use Rattle.std.proofs.Common.{◌≡◌, ◌≢◌, ℕ, refl, ap, ap₂, sym, ◌∙◌, subst, arith, Bool, true, false, cond, not, nat_eq, ◌&&◌, ◌||◌, List, [], ◌∷◌, ◌++◌, length, get_or, length-append, inl, inr, Less}
 use Rattle.std.proofs.lemmas.Bool.Decides.{nat_tests}
 use Rattle.ps_mono.specs.Sets.{stands}
 use Rattle.ps_mono.specs.Lists.{nat_eq_true}
@@ -12,9 +12,7 @@ use Rattle.std.specs.Cmp.Lexicographic.{pointwise}
 use Rattle.ps_rules.proofs.Keeps.{each_weak}
 use Rattle.ps_sum.specs.Outs.{outs_occur}
 use Rattle.ps_rules.specs.Terms.{EachWith, IsHalf}
-use Rattle.ps_rules.specs.Sights.{IsQuarter, IsFine, in_pair, in_wide, Partners, IsFree, IsHalves, IsQuartered, AllHalves, IsSpoilt, SeenAs}
-use Rattle.ps_rules.specs.declared.sights.Kind.{Kind}
-use Rattle.ps_rules.specs.declared.sights.Kind.TheVariants.{Free, Halves, Quarter, Other}
+use Rattle.ps_rules.specs.Sights.{IsQuarter, IsFine, in_pair, in_wide, Partners, IsFree, IsHalves, IsQuartered, AllHalves, IsSpoilt}
 
 pub off : {b : Bool} → b ≡ true → b ≡ false → ⊥
 off e f = cc

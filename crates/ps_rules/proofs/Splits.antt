@@ -1,8 +1,8 @@
 -- What the terms with a variable are worth, where all but one of them turn by half a turn.
-use Rattle.std.proofs.Common.{◌≡◌, ◌≢◌, ℕ, zero, suc, ◌+◌, ◌%◌, refl, ap, ap₂, sym, ◌∙◌, subst, arith, ◌<◌, ◌≤◌, Bool, true, false, cond, not, ◌&&◌, nat_eq, ◌||◌, List, [], ◌∷◌, length, get_or}
+use Rattle.std.proofs.Common.{◌≡◌, ◌≢◌, ℕ, zero, suc, ◌+◌, ◌%◌, refl, ap, ap₂, sym, ◌∙◌, subst, arith, ◌<◌, Bool, true, false, cond, not, ◌&&◌, nat_eq, List, [], ◌∷◌, length, get_or}
 use mathlib.Core.Path.{fun_ext}
 use Rattle.std.specs.Cmp.Lexicographic.{pointwise}
-use Rattle.ps_mono.specs.Sets.{holds, stands, mono_cmp}
+use Rattle.ps_mono.specs.Sets.{holds, stands}
 use Rattle.ps_mono.specs.Lists.{nat_eq_true, nat_eq_same}
 use Rattle.ps_mono.specs.Truth.{times, differ, with_value}
 use Rattle.ps_mono.proofs.Truths.{holds_not}
@@ -12,9 +12,9 @@ use Rattle.ps_bool.proofs.Laws.{bool_value-with_value}
 use Rattle.ps_phase.specs.declared.terms.Term.{Term}
 use Rattle.ps_phase.specs.Phases.{phase_value, phase_occurs, coefficient, TermBefore, IsPhasePoly}
 use Rattle.ps_phase.proofs.Adding.{M, neither}
-use Rattle.ps_phase.proofs.Values.{mono_eq, phase_agree, skipped, later_differs, coefficient_none}
+use Rattle.ps_phase.proofs.Values.{mono_eq, later_differs, coefficient_none}
 use Rattle.ps_sum.specs.Outs.{values, outs_occur}
-use Rattle.ps_rules.specs.Terms.{EachWith, IsHalf, both, others}
+use Rattle.ps_rules.specs.Terms.{EachWith, IsHalf, others}
 
 -- ---- assignments
 pub with_same : (a : ℕ → Bool) (v : ℕ) (b : Bool) → a v ≡ b → with_value a v b ≡ a

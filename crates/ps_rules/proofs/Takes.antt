@@ -1,13 +1,13 @@
 -- The sums that the steps make.
 use mathlib.Core.Path.{fun_ext}
-use Rattle.std.proofs.Common.{◌≡◌, ◌≢◌, ℕ, zero, suc, ◌+◌, ◌-◌, ◌%◌, refl, ap, ap₂, sym, ◌∙◌, subst, arith, ◌<◌, ◌≤◌, Bool, true, false, cond, not, nat_eq, nat_lt, ◌&&◌, ◌||◌, List, [], ◌∷◌, length, map, min, max, zero-add, ◌⊎◌, inl, inr}
+use Rattle.std.proofs.Common.{◌≡◌, ◌≢◌, ℕ, suc, ◌+◌, ◌-◌, ◌%◌, refl, ap, ap₂, sym, ◌∙◌, subst, arith, ◌<◌, ◌≤◌, Bool, true, false, cond, not, nat_eq, ◌&&◌, ◌||◌, List, [], ◌∷◌, length, min, max, zero-add, ◌⊎◌, inl, inr}
 use Rattle.std.proofs.Math.IntN.{ℤ, pos, negsuc, ◌+ℤ◌}
 use Rattle.std.proofs.Common.{◌≤ℤ◌}
 use Rattle.std.proofs.lemmas.Int.{ints}
 use Rattle.std.proofs.lemmas.Bool.{cases_lt}
 use Rattle.std.proofs.lemmas.Bool.Decides.{nat_tests}
 use Rattle.ps_mono.specs.Sets.{holds, stands}
-use Rattle.ps_mono.specs.Lists.{nat_eq_true, nat_eq_same, nat_eq_other}
+use Rattle.ps_mono.specs.Lists.{nat_eq_true, nat_eq_same}
 use Rattle.ps_mono.specs.Truth.{times, differ, with_value}
 use Rattle.ps_bool.specs.Polys.{bool_value, occurs}
 use Rattle.ps_bool.proofs.Unique.{bool_value-agree}
@@ -18,7 +18,6 @@ use Rattle.ps_phase.specs.Phases.{phase_value, phase_occurs, IsPhasePoly}
 use Rattle.ps_phase.proofs.Adding.{neither, no_or}
 use Rattle.ps_phase.proofs.Scaling.{selected_form, split_value}
 use Rattle.ps_phase.proofs.Values.{phase_agree}
-use Rattle.ps_ring.specs.Truths.{Truths}
 use Rattle.ps_ring.specs.Readings.{Assignment, closed_up}
 use Rattle.ps_ring.specs.Readings as rings
 use Rattle.ps_sum.specs.declared.sums.PathSum.{PathSum}
@@ -26,13 +25,12 @@ use Rattle.ps_sum.specs.Forms.{AllPolys, IsFormed}
 use Rattle.ps_sum.specs.Names.{closed, opened}
 use Rattle.ps_sum.specs.Outs.{values, outs_occur}
 use Rattle.ps_sum.proofs.Closings.{opened_above}
-use Rattle.ps_rules.specs.declared.steps.Step.{Step}
-use Rattle.ps_rules.specs.declared.steps.Step.TheVariants.{Elim, Hh, Omega}
+use Rattle.ps_rules.specs.declared.steps.Step.TheVariants.{Hh, Omega}
 use Rattle.ps_rules.specs.Closing.{closed_terms, closed_polys, IsReplaced}
-use Rattle.ps_rules.specs.Rules.{ElimApplies, HhApplies, OmegaApplies, Lowered, Becomes, ElimApplied, HhApplied, OmegaApplied, rest_value}
+use Rattle.ps_rules.specs.Rules.{ElimApplies, HhApplies, OmegaApplies, ElimApplied, HhApplied, OmegaApplied, rest_value}
 use Rattle.ps_rules.specs.Plans.{IsQuotient}
 use Rattle.ps_rules.proofs.Closes.{off, none_left, form_closed, value_closed, occurs_closed, values_closed, outs_closed, polys_closed, length_polys}
-use Rattle.ps_rules.proofs.Splits.{with_same, with_agree, phase_apart, values_apart, holds_without}
+use Rattle.ps_rules.proofs.Splits.{phase_apart, holds_without}
 
 -- ---- names back and forth
 name_back : (v u : ℕ) → u ≢ v → rings.opened v (closed v u) ≡ u
@@ -145,29 +143,6 @@ sum_under b xs ys zs f p q u l = never (phase_occurs u zs) refl
   where
     never : (t : Bool) → phase_occurs u zs ≡ t → t ≡ false
     never true e = absurd (off (f u e) (no_or _ _ (p u l) (q u l)))
-    never false e = refl
-
-free_of : (u : ℕ) (xs ys zs : List Term) → (phase_occurs u zs ≡ true → (phase_occurs u xs || phase_occurs u ys) ≡ true) → phase_occurs u xs ≡ false → phase_occurs u ys ≡ false → phase_occurs u zs ≡ false
-free_of u xs ys zs f p q = never (phase_occurs u zs) refl
-  where
-    never : (t : Bool) → phase_occurs u zs ≡ t → t ≡ false
-    never true e = absurd (off (f e) (no_or _ _ p q))
-    never false e = refl
-
--- the eighth of a turn and the lift
-pub eighth_value : (q : List (List ℕ)) (lifted constant sum : List Term) (e t : ℕ) → e ≡ 536870912 → t ≡ 3221225472 → ((a : Assignment) → phase_value lifted a % 4294967296 ≡ times (bool_value q a) t % 4294967296) → ((a : Assignment) → phase_value constant a ≡ e)
-    → ((a : Assignment) → phase_value sum a % 4294967296 ≡ (phase_value lifted a + phase_value constant a) % 4294967296) → (a : Assignment) → phase_value sum a % 4294967296 ≡ (536870912 + times (bool_value q a) 3221225472) % 4294967296
-eighth_value q lifted constant sum e t ee et l k s a =
-    let x = l a ∙ ap (λ n. times (bool_value q a) n % 4294967296) et in
-    let y = k a ∙ ee in
-    let z = s a in
-    omega arith
-
-pub eighth_free : (u : ℕ) (q : List (List ℕ)) (lifted constant sum : List Term) → (phase_occurs u lifted ≡ true → occurs u q ≡ true) → phase_occurs u constant ≡ false → (phase_occurs u sum ≡ true → (phase_occurs u lifted || phase_occurs u constant) ≡ true) → occurs u q ≡ false → phase_occurs u sum ≡ false
-eighth_free u q lifted constant sum l k s n = free_of u lifted constant sum s (never (phase_occurs u lifted) refl) k
-  where
-    never : (t : Bool) → phase_occurs u lifted ≡ t → t ≡ false
-    never true e = absurd (off (l e) n)
     never false e = refl
 
 -- ---- Omega
@@ -305,9 +280,6 @@ settled_apart low high ts a h n m = settled_twice low high ts a h ∙ phase_apar
 
 twice_under : (low high b : ℕ) (ts : List Term) → low < high → high < suc (suc b) → Under (suc (suc b)) ts → Under b (settled low (settled high ts))
 twice_under low high b ts h k f = settled_under low b (settled high ts) (omega arith) (settled_under high (suc b) ts k f)
-
-twice_form : (low high : ℕ) (ts : List Term) → IsPhasePoly ts → IsPhasePoly (settled low (settled high ts))
-twice_form low high ts p = settled_form low (settled high ts) (settled_form high ts p)
 
 open_low : (low high : ℕ) → low < high → opened high low ≡ low
 unfolding opened

@@ -1,22 +1,22 @@
 -- Sights of many variables at once.
-use Rattle.std.proofs.Common.{◌≡◌, ◌≢◌, ℕ, zero, suc, ◌+◌, ◌-◌, refl, ap, ap₂, sym, ◌∙◌, subst, arith, ◌<◌, ◌≤◌, Bool, true, false, cond, not, nat_eq, ◌&&◌, ◌||◌, List, [], ◌∷◌, ◌++◌, length, take, drop, drop-cons, add-one, drop_of_length-le, set, get_or, ◌⊎◌, inl, inr, Less}
-use Rattle.std.proofs.lemmas.Bool.{cases_lt, cases_eq}
+use Rattle.std.proofs.Common.{◌≡◌, ◌≢◌, ℕ, zero, suc, ◌+◌, ◌-◌, refl, ap, ap₂, sym, ◌∙◌, subst, arith, ◌<◌, ◌≤◌, Bool, true, false, cond, not, nat_eq, ◌&&◌, ◌||◌, List, [], ◌∷◌, ◌++◌, length, take, drop, drop-cons, add-one, drop_of_length-le, set, get_or, ◌⊎◌, inl, inr}
+use Rattle.std.proofs.lemmas.Bool.{cases_eq}
 use Rattle.std.proofs.lemmas.Bool.Decides.{nat_tests}
 use Rattle.std.proofs.lemmas.List.{take_more, take_all, get_or-set_same, get_or-set_other}
 use Rattle.std.proofs.Math.ListN.{length-set}
-use Rattle.ps_mono.specs.Sets.{stands, IsVarSet, Climbing, Above}
-use Rattle.ps_mono.specs.Lists.{nat_eq_same, nat_eq_other, nat_eq_true}
+use Rattle.ps_mono.specs.Sets.{stands, Climbing, Above}
+use Rattle.ps_mono.specs.Lists.{nat_eq_same, nat_eq_other}
 use Rattle.ps_mono.proofs.Laws.{set_climbing}
 use Rattle.ps_bool.specs.Polys.{occurs}
 use Rattle.ps_phase.specs.declared.terms.Term.{Term}
-use Rattle.ps_phase.specs.Phases.{phase_occurs, coefficient, TermBefore, IsTerm, IsPhasePoly}
+use Rattle.ps_phase.specs.Phases.{phase_occurs, TermBefore, IsPhasePoly}
 use Rattle.ps_phase.proofs.Values.{free_push}
 use Rattle.ps_sum.specs.Outs.{outs_occur}
 use Rattle.ps_rules.specs.declared.sights.Kind.{Kind}
 use Rattle.ps_rules.specs.declared.sights.Kind.TheVariants.{Free, Halves, Quarter, Other}
 use Rattle.ps_rules.specs.declared.sights.Sight.{Sight}
-use Rattle.ps_rules.specs.Terms.{EachWith, IsHalf}
-use Rattle.ps_rules.specs.Sights.{in_pair, in_wide, IsQuarter, Partners, IsFree, IsHalves, IsQuartered, SeenAs, Seen, IsFresh, EachSight}
+use Rattle.ps_rules.specs.Terms.{IsHalf}
+use Rattle.ps_rules.specs.Sights.{in_pair, in_wide, IsQuarter, Partners, SeenAs, Seen, IsFresh, EachSight}
 use Rattle.ps_rules.proofs.Deciding.{get_above, place_stands}
 use Rattle.ps_rules.proofs.Seeing.{off, each_push, in_pair_push, in_wide_push, kept_coefficient, spoilt_more, last_term}
 

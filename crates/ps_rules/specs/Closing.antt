@@ -1,5 +1,5 @@
 -- Names that close up in place: terms and monomials, one after another.
-use Rattle.std.specs.Prelude.{ℕ, ◌≡◌, Bool, false, not, ◌&&◌, nat_eq, List, [], ◌∷◌, map, length}
+use Rattle.std.specs.Prelude.{ℕ, ◌≡◌, Bool, false, not, ◌&&◌, nat_eq, List, map, length}
 use Rattle.ps_mono.specs.Truth.{with_value}
 use Rattle.ps_bool.specs.Polys.{bool_value, occurs}
 use Rattle.ps_sum.specs.Forms.{AllPolys}

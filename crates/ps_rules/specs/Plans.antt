@@ -1,5 +1,5 @@
 -- What is settled before a step is taken.
-use Rattle.std.specs.Prelude.{ℕ, ◌≡◌, ◌+◌, min, Bool, true, false, List}
+use Rattle.std.specs.Prelude.{ℕ, ◌≡◌, ◌+◌, min, false, List}
 use Rattle.ps_bool.specs.Polys.{occurs}
 use Rattle.ps_phase.specs.Phases.{phase_occurs}
 use Rattle.ps_sum.specs.declared.sums.PathSum.{PathSum}

@@ -1,10 +1,9 @@
 -- The three rewrite steps of path sums: when a step applies, which sum it gives, which step comes first, and how many
 -- terms it makes. Path variable y of a sum on n qubits is variable n + y of its polynomials.
-use Rattle.std.specs.Prelude.{ℕ, zero, ◌≡◌, ◌≢◌, ◌+◌, ◌<◌, ◌≤◌, ◌%◌, ◌⊎◌, min, Bool, true, false, cond, nat_eq, List, [], ◌∷◌, length, map, pos, ◌+ℤ◌}
+use Rattle.std.specs.Prelude.{ℕ, ◌≡◌, ◌≢◌, ◌+◌, ◌<◌, ◌≤◌, ◌%◌, ◌⊎◌, min, Bool, true, false, nat_eq, List, [], ◌∷◌, length, map, pos, ◌+ℤ◌}
 use Rattle.ps_mono.specs.Sets.{stands}
 use Rattle.ps_mono.specs.Truth.{times, differ, with_value}
 use Rattle.ps_bool.specs.Polys.{bool_value, IsPoly}
-use Rattle.ps_phase.specs.declared.terms.Term.{Term}
 use Rattle.ps_phase.specs.Phases.{phase_value, phase_occurs, coefficient}
 use Rattle.ps_phase.specs.Adding.{terms_without}
 use Rattle.ps_ring.specs.Truths.{Truths}

@@ -1,5 +1,5 @@
 -- The terms of a phase polynomial in which a variable stands.
-use Rattle.std.specs.Prelude.{ℕ, ◌≡◌, Bool, true, not, ◌&&◌, cond, nat_eq, nat_lt, List, [], ◌∷◌}
+use Rattle.std.specs.Prelude.{ℕ, ◌≡◌, true, not, ◌&&◌, cond, nat_eq, nat_lt, List, [], ◌∷◌}
 use Rattle.std.specs.Cmp.Lexicographic.{pointwise}
 use Rattle.ps_mono.specs.Sets.{stands}
 use Rattle.ps_phase.specs.declared.terms.Term.{Term}

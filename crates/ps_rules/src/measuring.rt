@@ -38,9 +38,9 @@ fn hh_above(sum: &PathSum, y0: u16, y1: u16, poly: &BoolPoly) -> Option<u64>
     ensures { MatchOption result (NoneAbove (step_counts sum.now (Step.Hh y0 y1) (length poly.now))) (λ c. IsFirstTold (step_counts sum.now (Step.Hh y0 y1) (length poly.now)) c) }
 {
     let n = sum.n as u16;
-    let count = phase_count(sum.phase.terms(), n + y0, n + y1, poly.count());
-    if count > LIMIT {
-        return Some(count);
+    let terms = phase_count(sum.phase.terms(), n + y0, n + y1, poly.count());
+    if terms > LIMIT {
+        return Some(terms);
     }
     outs_above(sum.outs.polys(), n + y1, poly)
 }

@@ -1,6 +1,6 @@
 use Rattle.std.proofs.Common.{◌≡◌, ◌+◌, subst}
 use Rattle.ps_rules.specs.declared.sights.Kind.{Kind}
-use Rattle.ps_rules.specs.declared.sights.Kind.TheVariants.{Free, Halves, Quarter, Other}
+use Rattle.ps_rules.specs.declared.sights.Kind.TheVariants.{Free, Quarter, Other}
 use Rattle.ps_rules.specs.Sights.{SeenAs}
 use Rattle.ps_rules.proofs.Deciding.{refused, elim_kind}
 use Rattle.ps_rules.proofs.checking.eliminates.Goals as goal

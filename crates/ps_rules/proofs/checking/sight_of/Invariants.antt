@@ -1,4 +1,4 @@
-use Rattle.std.proofs.Common.{◌≡◌, ◌+◌, take}
+use Rattle.std.proofs.Common.{◌+◌, take}
 use Rattle.ps_rules.specs.Sights.{Seen}
 use Rattle.ps_rules.proofs.checking.sight_of.Given as goal
 

@@ -1,4 +1,4 @@
-use Rattle.std.proofs.Common.{◌≡◌, ℕ, List, ◌∷◌, ◌++◌, [], ap, ◌∙◌, sym, refl, inl, inr, vec_items, nat_eq, ◌+◌}
+use Rattle.std.proofs.Common.{ℕ, List, ◌∷◌, ◌++◌, [], ap, ◌∙◌, refl, inl, inr, vec_items, nat_eq, ◌+◌}
 use Rattle.ps_phase.specs.Phases.{coefficient}
 use Rattle.ps_rules.proofs.Quotients.{omega_quotient, equal_test, other_test}
 use Rattle.ps_rules.proofs.dividing.omega_poly.Goals as goal

@@ -1,4 +1,4 @@
-use Rattle.std.proofs.Common.{◌≡◌, ◌∙◌, sym, inl, inr, arith}
+use Rattle.std.proofs.Common.{inl, inr, arith}
 use Rattle.ps_rules.proofs.Limits.{kept_start, kept_more, kept_end}
 use Rattle.ps_rules.proofs.measuring.kept_count.Goals as goal
 use Rattle.ps_rules.proofs.measuring.kept_count.Goals.{then-not-contains, else-not-contains}

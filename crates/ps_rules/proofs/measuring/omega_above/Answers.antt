@@ -1,4 +1,4 @@
-use Rattle.std.proofs.Common.{[], ◌∙◌, ◌+◌, ap, sym, min, length}
+use Rattle.std.proofs.Common.{[], ◌∙◌, ◌+◌, ap, min, length}
 use Rattle.ps_sum.specs.Counts.{raw_term}
 use Rattle.ps_rules.proofs.Limits.{omega_count, told_first, none_later}
 use Rattle.ps_rules.proofs.measuring.omega_above.Goals as goal

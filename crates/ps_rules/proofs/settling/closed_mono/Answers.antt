@@ -1,4 +1,4 @@
-use Rattle.std.proofs.Common.{ℕ, ◌<◌, ◌≤◌, ◌∙◌, sym, subst, arith, suc, ◌≡◌, ◌-◌, length, get_or}
+use Rattle.std.proofs.Common.{ℕ, ◌<◌, ◌≤◌, ◌∙◌, sym, subst, arith, ◌≡◌, ◌-◌, length}
 use Rattle.ps_mono.proofs.Laws.{set_climbing}
 use Rattle.ps_rules.proofs.Closes.{closed_none, closed_same, closing_start, closing_more, closing_end, closed_small}
 use Rattle.ps_rules.proofs.settling.closed_mono.Goals as goal

@@ -1,4 +1,4 @@
-use Rattle.std.proofs.Common.{◌≡◌, sym, subst, ◌++◌, ◌∷◌, []}
+use Rattle.std.proofs.Common.{sym, subst, ◌++◌, ◌∷◌, []}
 use Rattle.ps_rules.specs.declared.sights.Kind.{Kind}
 use Rattle.ps_rules.specs.Sights.{SeenAs}
 use Rattle.ps_rules.proofs.Seeing.{spoilt_more, free_halves, halves_halves}

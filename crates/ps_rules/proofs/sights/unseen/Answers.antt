@@ -1,6 +1,5 @@
-use Rattle.std.proofs.Common.{◌≡◌, ℕ, List, [], sym, ◌∙◌, subst, true, false}
+use Rattle.std.proofs.Common.{[], sym, ◌∙◌, subst}
 use Rattle.ps_rules.specs.declared.sights.Kind.{Kind}
-use Rattle.ps_rules.specs.declared.sights.Kind.TheVariants.{Free, Other}
 use Rattle.ps_rules.specs.Sights.{SeenAs}
 use Rattle.ps_rules.proofs.Seeing.{unseen_free, spoken_spoilt}
 use Rattle.ps_rules.proofs.sights.unseen.Goals as goal

@@ -1,4 +1,4 @@
-use Rattle.std.proofs.Common.{◌≡◌, ℕ, ◌∙◌, sym, refl, subst, ◌++◌, ◌∷◌, []}
+use Rattle.std.proofs.Common.{◌∙◌, sym, refl, subst}
 use Rattle.ps_rules.specs.Sights.{IsQuarter}
 use Rattle.ps_rules.proofs.Seeing.{off, halves_more, partners_pair, partners_wide, halves_quarter, halves_other}
 use Rattle.ps_rules.proofs.sights.with_halves.Goals as goal
