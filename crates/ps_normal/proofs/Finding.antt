@@ -100,9 +100,10 @@ overlap_passed a b x y S1 S2 p e ss o is h ea eb ex ey es v =
     subst (λ q. Overlaps S1 S2 q (limit o)) (sym es) (subst (λ q. Overlaps S1 S2 [] (limit q)) (sym w) (passes k))
 
 pub comparable_scaled : (S1 S2 : PathSum) → Comparable S1 S2 → (negsuc 1999999999 ≤ℤ (S1.k +ℤ S2.k +ℤ pos (S1.n + S1.n))) × ((S1.k +ℤ S2.k +ℤ pos (S1.n + S1.n)) ≤ℤ pos 2000000000)
-comparable_scaled S1 S2 c =
-    (omega (arith, ints, c.first_few, c.second_few, c.first.scale.least, c.second.scale.least),
-    omega (arith, ints, c.first.scale.most, c.second.scale.most, S1.named, S2.named, S1.qubits.1))
+comparable_scaled S1 S2 c = (
+  omega (arith, ints, c.first_few, c.second_few, c.first.scale.least, c.second.scale.least),
+  omega (arith, ints, c.first.scale.most, c.second.scale.most, S1.named, S2.named, S1.qubits.1),
+)
 
 pub comparable_floor : (S1 S2 S : PathSum) → Comparable S1 S2 → IsOverlapOf S1 S2 S → negsuc 1999999999 ≤ℤ (S.k -ℤ pos (2 * S.m))
 comparable_floor S1 S2 S c o = omega (arith, ints, o.overlaps.m_is, o.overlaps.k_is, c.first_few, c.second_few, c.first.scale.least, c.second.scale.least)
@@ -134,7 +135,7 @@ pub second_passed : (first second : Record) (s : Arc PathSum Global) (e : Eviden
 second_passed first second s e ss f b c h =
     subst (λ x. Compares (outcome_by first.moves x) (outcome_of second) ss f) (sym b)
     (subst (λ x. Compares (kept s.value first.moves) (outcome_by second.moves x) ss f) (sym c)
-      (subst (λ q. Compares (kept s.value first.moves) (passed (overrun_of e) second.moves) q f) (sym h.0) (subst (Compares (kept s.value first.moves) (passed (overrun_of e) second.moves) []) (sym h.1) second_limit)))
+    (subst (λ q. Compares (kept s.value first.moves) (passed (overrun_of e) second.moves) q f) (sym h.0) (subst (Compares (kept s.value first.moves) (passed (overrun_of e) second.moves) []) (sym h.1) second_limit)))
 
 pub both_sums : (first second : Record) (s t : Arc PathSum Global) (ss : List Step) (f : Finding) → first.body ≡ body.Sum s → second.body ≡ body.Sum t → Overlaps s.value t.value ss f → Compares (outcome_of first) (outcome_of second) ss f
 both_sums first second s t ss f b c h =
@@ -148,8 +149,8 @@ pub judged_right : (first second : Record) (ss : List Step) (v : Verdict) → fi
 judged_right first second ss v e c = ∥∥₁_elim first.right squash₁ (λ q. ∥∥₁_map second.right (λ r. record {
   found = c;
   justified = compares_justified first.n (run_of first.items.value) (run_of second.items.value)
-    (right_outcome first.n (run_of first.items.value) first.moves first.body q) (right_outcome first.n (run_of second.items.value) second.moves second.body (subst (λ k. IsRight k (run_of second.items.value) second.moves second.body) (sym e) r))
-    first.within (subst (λ k. AllWithin k (run_of second.items.value)) (sym e) second.within) c;
+      (right_outcome first.n (run_of first.items.value) first.moves first.body q) (right_outcome first.n (run_of second.items.value) second.moves second.body (subst (λ k. IsRight k (run_of second.items.value) second.moves second.body) (sym e) r))
+      first.within (subst (λ k. AllWithin k (run_of second.items.value)) (sym e) second.within) c;
 }))
 
 pub judged_decides : (n : ℕ) (A B : List (List Prim)) (first second : Record) (ss : List Step) (f : Finding) → CanRun n A → CanRun n B → IsRecordOf n A (Fills n (run_of A)) first → IsRecordOf n B (Fills n (run_of B)) second

@@ -4,3 +4,4 @@ pub mod Taking
 pub mod Recording
 pub mod Pairs
 pub mod Finding
+pub mod TestRuns

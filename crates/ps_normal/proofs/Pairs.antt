@@ -157,7 +157,7 @@ pub both_run : (n : ℕ) (first second : Record) (items : List (List Prim)) → 
 both_run n first second items c e = subst (CanRun n) (sym e) (record {
   few = omega (arith, c.few, lists_both first.items.value second.items.value);
   within = subst (AllWithin n) (sym (run_both first.items.value second.items.value))
-    (within_both n (run_of first.items.value) (run_of second.items.value) (subst (λ k. AllWithin k (run_of first.items.value)) c.first_n first.within) (subst (λ k. AllWithin k (run_of second.items.value)) c.second_n second.within));
+      (within_both n (run_of first.items.value) (run_of second.items.value) (subst (λ k. AllWithin k (run_of first.items.value)) c.first_n first.within) (subst (λ k. AllWithin k (run_of second.items.value)) c.second_n second.within));
 })
 
 -- ---- what the two come to is right
@@ -172,7 +172,7 @@ both_part n A B ms1 ms2 ms b c s t p e f q r h =
     let q' = subst (IsRight n A ms1) e q in
     let r' = subst (IsRight n B ms2) f r in
     part_right n (A ++ B) ms (Joins 0 (length A) (length A + length B) s.value t.value (ms1 ++ map (raised (length A)) ms2)) p
-      (λ o j. both_right A B j q'.0 q'.1 r'.0 r'.1) h
+    (λ o j. both_right A B j q'.0 q'.1 r'.0 r'.1) h
 
 pub children_right : (n : ℕ) (first second : Record) (items : List (List Prim)) (s t : Arc PathSum Global) (ms old : List Move) (p : Part) → CanJoin n first second → items ≡ first.items.value ++ second.items.value → first.body ≡ body.Sum s → second.body ≡ body.Sum t
     → old ≡ first.moves ++ map (raised (length (run_of first.items.value))) second.moves
@@ -183,9 +183,9 @@ children_right n first second items s t ms old p c ei e f eo h =
     let k = subst (λ q. PartIs (Joins 0 (length A) (length A + length B) s.value t.value q) ms p) eo h in
     let er : run_of items ≡ A ++ B = ap run_of ei ∙ run_both first.items.value second.items.value in
     subst (λ C. ∥ IsJoinedPart n C ms p ∥₁) (sym er)
-      (∥∥₁_elim (subst (λ x. ∥ IsRight x A first.moves first.body ∥₁) c.first_n first.right) squash₁
-        (λ q. ∥∥₁_map (subst (λ x. ∥ IsRight x B second.moves second.body ∥₁) c.second_n second.right)
-          (λ r. both_part n A B first.moves second.moves ms first.body second.body s t p e f q r k)))
+    (∥∥₁_elim (subst (λ x. ∥ IsRight x A first.moves first.body ∥₁) c.first_n first.right) squash₁
+    (λ q. ∥∥₁_map (subst (λ x. ∥ IsRight x B second.moves second.body ∥₁) c.second_n second.right)
+    (λ r. both_part n A B first.moves second.moves ms first.body second.body s t p e f q r k)))
 
 pub joined_sum : (n : ℕ) (A : List Prim) (ms : List Move) (p : Part) (S T : PathSum) → p ≡ part.Sum S → T ≡ S → ∥ IsJoinedPart n A ms p ∥₁ → ∥ IsNormalFor n A T × Reaches n A ms T ∥₁
 joined_sum n A ms p S T e t h = subst (λ R. ∥ IsNormalFor n A R × Reaches n A ms R ∥₁) (sym t) (subst (λ q. ∥ IsJoinedPart n A ms q ∥₁) e h)
@@ -217,7 +217,7 @@ filled_both n first second items s t old (filled.Done r) ei e f eo h = record {
   n_is = h.n_is;
   items_are = h.items_are ∙ ei;
   outcome = both_is (length (run_of first.items.value)) (length (run_of second.items.value)) first.moves second.moves first.body second.body s t (outcome_of r) e f
-    (subst (λ q. Joins 0 (length (run_of first.items.value)) (length (run_of first.items.value) + length (run_of second.items.value)) s.value t.value q (outcome_of r)) eo h.outcome);
+      (subst (λ q. Joins 0 (length (run_of first.items.value)) (length (run_of first.items.value) + length (run_of second.items.value)) s.value t.value q (outcome_of r)) eo h.outcome);
 }
 filled_both n first second items s t old filled.Stopped ei e f eo h = tt
 

@@ -165,6 +165,13 @@ pub fn fill_children<S: Stop>(
         middle,
         to: middle + behind,
     };
-    let part = join_sums(alloc, places, sum_of(first), sum_of(second), &mut moves, stop)?;
+    let part = join_sums(
+        alloc,
+        places,
+        sum_of(first),
+        sum_of(second),
+        &mut moves,
+        stop,
+    )?;
     joined_record(alloc, n, Arc::new(alloc, items)?, moves, part)
 }

@@ -14,3 +14,6 @@ mod takings;
 pub use comparing::{compare, same_gates};
 pub use filled::Filled;
 pub use filling::fill;
+
+#[cfg(test)]
+mod tests;

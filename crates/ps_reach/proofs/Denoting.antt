@@ -58,7 +58,7 @@ pub join_stands : {n : ℕ} {A1 A2 : List Prim} {S1 S2 S : PathSum} → IsJoinOf
 join_stands {n} {A1} {A2} {S1} {S2} {S} j d1 d2 = record {
   n_is = j.n_is ∙ d1.n_is;
   denotes = subst (λ k. Denotes k (path_values S) (A1 ++ A2)) d1.n_is
-    (join_denotes S1.n (path_values S1) (path_values S2) (path_values S) A1 A2 j.values_are (subst (λ k. Denotes k (path_values S1) A1) (sym d1.n_is) d1.denotes) (subst (λ k. Denotes k (path_values S2) A2) (sym d1.n_is) d2.denotes));
+      (join_denotes S1.n (path_values S1) (path_values S2) (path_values S) A1 A2 j.values_are (subst (λ k. Denotes k (path_values S1) A1) (sym d1.n_is) d1.denotes) (subst (λ k. Denotes k (path_values S2) A2) (sym d1.n_is) d2.denotes));
 }
 
 pub normal_stands : {n : ℕ} {A : List Prim} {S : PathSum} → IsNormalFor n A S → AllWithin n A → Stands n A S

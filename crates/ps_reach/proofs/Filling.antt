@@ -116,7 +116,7 @@ joined_before {n} {S} {T} {U} {ms} {ms'} F G g a d (reduces f j r) = record {
   some = omega (arith, more F g);
   normal_for = two refl a d.normal_for f j r;
   built = subst (λ B. Replays n B [] ms' (entry (span 0 (length (F ++ g ∷ []))) U ∷ [])) (appended F G g)
-    (subst (λ k. Replays n (F ++ g ∷ G) [] ms' (entry (span 0 k) U ∷ [])) (more F g) (join_built adjoin f j r.taken d.built));
+      (subst (λ k. Replays n (F ++ g ∷ G) [] ms' (entry (span 0 k) U ∷ [])) (more F g) (join_built adjoin f j r.taken d.built));
 }
 
 -- ---- all prims

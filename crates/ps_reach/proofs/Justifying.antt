@@ -133,7 +133,7 @@ differs {n} {A} {B} {S1} {S2} {S} {T} bits v r h =
     let sn : S.n ≡ n = v.overlap.qubits_are ∙ v.first.n_is in
     let tn : T.n ≡ n = reduces_n r ∙ sn in
     not_one_differs (point n bits) v (taken_length 0 n _)
-      (λ one. subst (λ k. ¬ (IsOne (path_values T) (point k bits))) tn h (one_after (point n bits) r (taken_length 0 n _ ∙ sym sn) one))
+    (λ one. subst (λ k. ¬ (IsOne (path_values T) (point k bits))) tn h (one_after (point n bits) r (taken_length 0 n _ ∙ sym sn) one))
 
 shown : {n : ℕ} {A B : List Prim} {S1 S2 S T : PathSum} {ss : List Step} {f : Finding} → IsNormalFor n A S1 → IsNormalFor n B S2 → Overlapped n A B S1 S2 S → ReducesTo S ss (normal T) → Shows T f → IsJustified n A B f
 shown {n} {A} {B} {S1} {S2} {S} {T} a b v r (unit u) = λ x l.

@@ -67,9 +67,11 @@ length_both [] B = omega arith
 length_both (a ∷ A) B = omega (arith, length_both A B)
 
 front_inside : (A B : List Prim) → Inside A (A ++ B) 0
-front_inside A B = record { there = λ i g h e.
-    let z : i ≡ i + 0 = omega arith in
-    (omega (arith, h, length_both A B), e ∙ sym (get_front A B i g h) ∙ ap (λ k. get_or (A ++ B) k g) z) }
+front_inside A B = record {
+  there = λ i g h e.
+      let z : i ≡ i + 0 = omega arith in
+      (omega (arith, h, length_both A B), e ∙ sym (get_front A B i g h) ∙ ap (λ k. get_or (A ++ B) k g) z);
+}
 
 back_inside : (A B : List Prim) → Inside B (A ++ B) (length A)
 back_inside A B = record { there = λ i g h e. (omega (arith, h, length_both A B), e ∙ sym (get_behind A B i g)) }
@@ -99,7 +101,7 @@ whole_behind (a ∷ A) (b ∷ B) =
     let z : 0 + length (a ∷ A) ≡ length (a ∷ A) = omega arith in
     let e : length (b ∷ B) + length (a ∷ A) ≡ length (a ∷ (A ++ b ∷ B)) = omega (arith, length_both (a ∷ A) (b ∷ B)) in
     subst (λ k. Meets (span 0 (length (a ∷ A))) (span k (length (b ∷ B) + length (a ∷ A))) (span 0 (length (a ∷ (A ++ b ∷ B))))) (sym z)
-      (subst (λ k. Meets (span 0 (length (a ∷ A))) (span (length (a ∷ A)) (length (b ∷ B) + length (a ∷ A))) (span 0 k)) e adjoin)
+    (subst (λ k. Meets (span 0 (length (a ∷ A))) (span (length (a ∷ A)) (length (b ∷ B) + length (a ∷ A))) (span 0 k)) e adjoin)
 
 -- the moves of the first, and then those of the second with the places of its leaves raised, leave both sums on the stack
 pub reaches_both : {n : ℕ} (A B : List Prim) {ms ks : List Move} {S T : PathSum} → Reaches n A ms S → Reaches n B ks T
@@ -107,8 +109,8 @@ pub reaches_both : {n : ℕ} (A B : List Prim) {ms ks : List Move} {S T : PathSu
 unfolding entry_moved
 reaches_both {n} A B {ms} {ks} {S} {T} h k =
     replays_more
-      (subst (λ r. Replays n (A ++ B) [] ms (entry r S ∷ [])) (not_moved (whole_run A)) (subst (λ q. Replays n (A ++ B) [] q (entry (moved 0 (whole_run A)) S ∷ [])) (not_raised ms) (replays_inside 0 [] (front_inside A B) h)))
-      (replays_inside (length A) (entry (whole_run A) S ∷ []) (back_inside A B) k)
+    (subst (λ r. Replays n (A ++ B) [] ms (entry r S ∷ [])) (not_moved (whole_run A)) (subst (λ q. Replays n (A ++ B) [] q (entry (moved 0 (whole_run A)) S ∷ [])) (not_raised ms) (replays_inside 0 [] (front_inside A B) h)))
+    (replays_inside (length A) (entry (whole_run A) S ∷ []) (back_inside A B) k)
 
 pub runs_meet : (A B : List Prim) → Meets (whole_run A) (moved (length A) (whole_run B)) (whole_run (A ++ B))
 runs_meet = whole_behind

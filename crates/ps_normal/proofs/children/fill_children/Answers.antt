@@ -29,8 +29,8 @@ joined_record-requires-clause-right g c =
     let em = c.prim_count-middle.ensures.value ∙ ap (λ L. length (run_of L)) c.deref-3.ensures in
     let eb = c.prim_count-behind.ensures.value ∙ ap (λ L. length (run_of L)) c.deref-4.ensures in
     children_right c.args.n c.args.first.now c.args.second.now c.in_ok-new.field-0.value c.sum_of.result.now c.sum_of-2.result.now c.join_sums.new.moves.items c.push_raised.new.out.items c.in_ok-part.part c.requires.both e c.sum_of.ensures c.sum_of-2.ensures
-      (moves_both c.prim_count-middle.result c.push_raised.new.out.items c.in_ok-moves.moves.items c.args.first.now.moves c.args.second.now.moves c.as_slice.result.now c.as_slice-2.result.now (length (run_of c.args.first.now.items.value)) c.in_ok-push_raised.ensures c.in_ok-moves.ensures.items c.as_slice.ensures c.as_slice-2.ensures em)
-      (places_at c.prim_count-middle.result c.prim_count-behind.result (length (run_of c.args.first.now.items.value)) (length (run_of c.args.second.now.items.value)) c.sum_of.result.now.value c.sum_of-2.result.now.value c.push_raised.new.out.items c.join_sums.new.moves.items c.in_ok-part.part em eb c.in_ok-part.ensures.part)
+    (moves_both c.prim_count-middle.result c.push_raised.new.out.items c.in_ok-moves.moves.items c.args.first.now.moves c.args.second.now.moves c.as_slice.result.now c.as_slice-2.result.now (length (run_of c.args.first.now.items.value)) c.in_ok-push_raised.ensures c.in_ok-moves.ensures.items c.as_slice.ensures c.as_slice-2.ensures em)
+    (places_at c.prim_count-middle.result c.prim_count-behind.result (length (run_of c.args.first.now.items.value)) (length (run_of c.args.second.now.items.value)) c.sum_of.result.now.value c.sum_of-2.result.now.value c.push_raised.new.out.items c.join_sums.new.moves.items c.in_ok-part.part em eb c.in_ok-part.ensures.part)
 
 pub returns-clause-filled : goal.returns-clause-filled
 returns-clause-filled g c =
@@ -39,7 +39,7 @@ returns-clause-filled g c =
     let eb = c.prim_count-behind.ensures.value ∙ ap (λ L. length (run_of L)) c.deref-4.ensures in
     let p = places_at c.prim_count-middle.result c.prim_count-behind.result (length (run_of c.args.first.now.items.value)) (length (run_of c.args.second.now.items.value)) c.sum_of.result.now.value c.sum_of-2.result.now.value c.push_raised.new.out.items c.join_sums.new.moves.items c.in_ok-part.part em eb c.in_ok-part.ensures.part in
     IfOk-weaker c.joined_record.result _ _
-      (λ f k. filled_both c.args.n c.args.first.now c.args.second.now c.in_ok-new.field-0.value c.sum_of.result.now c.sum_of-2.result.now c.push_raised.new.out.items f e c.sum_of.ensures c.sum_of-2.ensures
-        (moves_both c.prim_count-middle.result c.push_raised.new.out.items c.in_ok-moves.moves.items c.args.first.now.moves c.args.second.now.moves c.as_slice.result.now c.as_slice-2.result.now (length (run_of c.args.first.now.items.value)) c.in_ok-push_raised.ensures c.in_ok-moves.ensures.items c.as_slice.ensures c.as_slice-2.ensures em)
-        (k _ _ _ _ _ _ p))
-      c.joined_record.ensures.filled
+    (λ f k. filled_both c.args.n c.args.first.now c.args.second.now c.in_ok-new.field-0.value c.sum_of.result.now c.sum_of-2.result.now c.push_raised.new.out.items f e c.sum_of.ensures c.sum_of-2.ensures
+    (moves_both c.prim_count-middle.result c.push_raised.new.out.items c.in_ok-moves.moves.items c.args.first.now.moves c.args.second.now.moves c.as_slice.result.now c.as_slice-2.result.now (length (run_of c.args.first.now.items.value)) c.in_ok-push_raised.ensures c.in_ok-moves.ensures.items c.as_slice.ensures c.as_slice-2.ensures em)
+    (k _ _ _ _ _ _ p))
+    c.joined_record.ensures.filled

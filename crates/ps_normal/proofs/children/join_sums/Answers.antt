@@ -8,13 +8,15 @@ use Rattle.ps_normal.proofs.children.join_sums.Goals as goal
 pub reduce-requires : goal.reduce-requires
 reduce-requires g c =
     let r = c.requires.ready in
-    record { floor = usable_floor r.n (r.before + r.behind) c.in-Ok.sum r.few
-      (usable_join r.n r.before r.behind c.args.first.now.value c.args.second.now.value c.in-Ok.sum (join_at _ _ c.args.first.now.value c.args.second.now.value c.in-Ok.sum c.deref.ensures c.deref-2.ensures c.in-Ok.ensures.sum) r.first r.second) }
+    record {
+      floor = usable_floor r.n (r.before + r.behind) c.in-Ok.sum r.few
+          (usable_join r.n r.before r.behind c.args.first.now.value c.args.second.now.value c.in-Ok.sum (join_at _ _ c.args.first.now.value c.args.second.now.value c.in-Ok.sum c.deref.ensures c.deref-2.ensures c.in-Ok.ensures.sum) r.first r.second);
+    }
 
 pub returns-in-Ok-clause-part : goal.returns-in-Ok-clause-part
 returns-in-Ok-clause-part g c = IfOk-weaker c.ended_part.result _ _
     (λ p j. j c.args.first.now.value c.args.second.now.value c.in-Ok.sum refl (fits_at _ _ c.args.first.now.value c.args.second.now.value c.deref.ensures c.deref-2.ensures c.in-Ok.ensures.fits)
-      (join_at _ _ c.args.first.now.value c.args.second.now.value c.in-Ok.sum c.deref.ensures c.deref-2.ensures c.in-Ok.ensures.sum) (ended_at _ _ _ _ c.deref-in-Ok.ensures.value c.in_ok-ended-in-Ok.ensures.ended))
+    (join_at _ _ c.args.first.now.value c.args.second.now.value c.in-Ok.sum c.deref.ensures c.deref-2.ensures c.in-Ok.ensures.sum) (ended_at _ _ _ _ c.deref-in-Ok.ensures.value c.in_ok-ended-in-Ok.ensures.ended))
     c.ended_part.ensures.join
 
 pub returns-in-Err-Passed-clause-part : goal.returns-in-Err-Passed-clause-part

@@ -10,6 +10,6 @@ invariant_of-result c =
     record {
       same = e;
       right = subst (λ ss. ∥ IsJudged c.in_ok-first.first.value c.in_ok-second.second.value ss c.in_ok-found.found.verdict ∥₁) (sym c.from_vec.ensures)
-        (judged_right c.in_ok-first.first.value c.in_ok-second.second.value _ c.in_ok-found.found.verdict e
+          (judged_right c.in_ok-first.first.value c.in_ok-second.second.value _ c.in_ok-found.found.verdict e
           (compares_at _ _ c.in_ok-first.first.value c.in_ok-second.second.value _ _ (c.deref.ensures ∙ sym c.in_ok-first.ensures) (c.deref-2.ensures ∙ sym c.in_ok-second.ensures) c.in_ok-found.ensures));
     }

@@ -14,5 +14,5 @@ returns c = record {
   n_is = c.record.ensures.qubits;
   items_are = c.record.ensures.items;
   outcome = subst (Fills c.args.n (run_of c.args.items.value)) (sym c.record.ensures.outcome)
-    (empty_fills c.args.n (run_of c.args.items.value) c.new-moves.result.items c.push.new.self.items c.in_ok-identity.field-0 c.in_ok-sum.sum.value c.requires.none c.in_ok-identity.ensures.sum c.in_ok-sum.ensures.ok c.new-moves.ensures.items c.in_ok-push.ensures.items);
+      (empty_fills c.args.n (run_of c.args.items.value) c.new-moves.result.items c.push.new.self.items c.in_ok-identity.field-0 c.in_ok-sum.sum.value c.requires.none c.in_ok-identity.ensures.sum c.in_ok-sum.ensures.ok c.new-moves.ensures.items c.in_ok-push.ensures.items);
 }

@@ -18,7 +18,7 @@ returns-in_ok-new-in-Going-Some c = record {
     n_is = c.record.ensures.qubits;
     items_are = c.record.ensures.items;
     outcome = subst (Fills c.args.n (run_of c.args.items.value)) (sym c.record.ensures.outcome)
-      (sum_fills c.args.n _ (run_of c.args.items.value) c.args.moves.items c.args.taken c.in-Going-Some.field-0 c.in-Going-Some.sum c.in_ok-new-in-Going-Some.field-0.value c.in-Going-Some.is c.in-Going-Some.field-0-is c.in_ok-new-in-Going-Some.ensures.ok c.requires.taken);
+        (sum_fills c.args.n _ (run_of c.args.items.value) c.args.moves.items c.args.taken c.in-Going-Some.field-0 c.in-Going-Some.sum c.in_ok-new-in-Going-Some.field-0.value c.in-Going-Some.is c.in-Going-Some.field-0-is c.in_ok-new-in-Going-Some.ensures.ok c.requires.taken);
   };
   stopped = λ old new h. tt;
 }

@@ -19,14 +19,14 @@ returns-in-Over-clause-taken g c =
     let e : c.as_slice-prims.result.now ≡ prims_of c.item-item.result = c.as_slice-prims.ensures ∙ ap (λ (i : Item). i.prims) c.deref.ensures in
     subst (λ L. Fills c.args.n (run_of L) (passed (overrun_of c.in-Over.evidence) c.take_prims.new.moves.items)) c.as_slice-item-items.ensures.value
     (tour_over c.args.n c.as_slice-item-items.result.now c.items.item-index c.items.at c.items.held c.items.moves.items c.take_prims.new.moves.items c.item-item.result c.as_slice-prims.result.now c.in_ok-sum.field-0 c.in-Over.evidence
-      c.items-test.true c.item-item.is e c.items.invariant.tour c.in-Over.is c.in_ok-sum.ensures.taken)
+    c.items-test.true c.item-item.is e c.items.invariant.tour c.in-Over.is c.in_ok-sum.ensures.taken)
 
 pub items-preserved : goal.items-preserved
 items-preserved g c =
     let e : c.as_slice-prims.result.now ≡ prims_of c.item-item.result = c.as_slice-prims.ensures ∙ ap (λ (i : Item). i.prims) c.deref.ensures in
     record {
       tour = tour_more c.args.n c.as_slice-item-items.result.now c.items.item-index c.items.at _ c.items.held c.in-Going.sum c.items.moves.items c.take_prims.new.moves.items c.item-item.result c.as_slice-prims.result.now c.in_ok-sum.field-0
-        c.items-test.true c.item-item.is e refl c.items.invariant.tour c.in-Going.is c.in_ok-sum.ensures.taken c.in_ok-sum.ensures.usable;
+          c.items-test.true c.item-item.is e refl c.items.invariant.tour c.in-Going.is c.in_ok-sum.ensures.taken c.in_ok-sum.ensures.usable;
       never_falls = omega (arith, c.items.invariant.never_falls, c.take_prims.ensures.never_falls);
     }
 
