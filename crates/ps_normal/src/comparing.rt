@@ -227,7 +227,9 @@ pub fn same_gates(
     requires width { (1 ≤ n) × (n ≤ 64) }
     requires first { CanRun n first.now.value }
     requires second { CanRun n second.now.value }
-    ensures { IfOk result (λ j. Decides n (run_of first.now.value) (run_of second.now.value) j.steps (finding_of j.verdict)) }
+    ensures decided { IfOk result (λ j. Decides n (run_of first.now.value) (run_of second.now.value) j.steps (finding_of j.verdict)) }
+    ensures first_record { IfOk result (λ j. IsRecordOf n first.now.value (Fills n (run_of first.now.value)) j.first.value) }
+    ensures second_record { IfOk result (λ j. IsRecordOf n second.now.value (Fills n (run_of second.now.value)) j.second.value) }
 {
     let before = Arc::new(alloc, filled(alloc, n, first)?)?;
     let behind = Arc::new(alloc, filled(alloc, n, second)?)?;
