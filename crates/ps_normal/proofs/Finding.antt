@@ -1,5 +1,5 @@
 -- What comparing finds.
-use Rattle.std.proofs.Common.{◌≡◌, ◌≢◌, ℕ, zero, suc, ◌+◌, ◌*◌, ◌<◌, ◌≤◌, refl, ap, ap₂, sym, ◌∙◌, subst, arith, Option, Some, None, List, [], ◌∷◌, ◌++◌, length}
+use Rattle.std.proofs.Common.{◌≡◌, ℕ, ◌+◌, ◌*◌, ◌<◌, ◌≤◌, refl, ap, sym, ◌∙◌, subst, arith, Option, Some, None, List, [], ◌∷◌, length}
 use Rattle.std.proofs.lemmas.Int.{ints}
 use Rattle.std.proofs.lemmas.Bool.Decides.{nat_tests}
 use Rattle.std.specs.Prelude.{pos, negsuc, ◌+ℤ◌, ◌-ℤ◌, ◌≤ℤ◌, Bool, true, false, nat_eq, IsTrue, IsNone}
@@ -9,29 +9,24 @@ use Rattle.std.specs.declared.sync.Arc.{Arc}
 use Rattle.std.specs.declared.alloc.Global.{Global}
 use Rattle.ps_prim.specs.declared.prims.Primitive.{Primitive as Prim}
 use Rattle.ps_prim.specs.Maps.{AllWithin}
-use Rattle.ps_prim.specs.Items.{IsItem}
 use Rattle.ps_prim.specs.Amplitudes.{turns}
-use Rattle.ps_ring.specs.Joins.{OverlapSum}
 use Rattle.ps_sum.specs.declared.sums.PathSum.{PathSum}
 use Rattle.ps_sum.specs.declared.faults.Passed.{Passed}
 use Rattle.ps_sum.specs.declared.faults.JoinFault.{JoinFault}
 use Rattle.ps_sum.specs.declared.faults.JoinFault.TheVariants as fault
 use Rattle.ps_rules.specs.declared.steps.Step.{Step}
-use Rattle.ps_rules.specs.declared.steps.Move.{Move}
-use Rattle.ps_overlap.specs.Overlapping.{IsOverlapOf, OverlapPasses, LeastVanishing, NoneVanishes, IsLeastPoint, IsFirstPoint}
+use Rattle.ps_overlap.specs.Overlapping.{IsOverlapOf, OverlapPasses, NoneVanishes, IsFirstPoint}
 use Rattle.ps_overlap.specs.Faults.{IsOverlapFault}
 use Rattle.ps_reach.specs.declared.evidence.Evidence.{Evidence}
-use Rattle.ps_reach.specs.declared.evidence.Body.{Body}
 use Rattle.ps_reach.specs.declared.evidence.Body.TheVariants as body
 use Rattle.ps_reach.specs.declared.record.Record.{Record}
 use Rattle.ps_reach.specs.declared.verdict.Verdict.{Verdict}
 use Rattle.ps_reach.specs.declared.verdict.Verdict.TheVariants as verdict
-use Rattle.ps_reach.specs.Reductions.{Reduces, normal, over, ReducesTo}
 use Rattle.ps_reach.specs.Overruns.{Overrun}
 use Rattle.ps_reach.specs.Runs.{AllItems, run_of}
-use Rattle.ps_reach.specs.Parts.{Scaled, IsRight, overrun_of, outcome_by}
-use Rattle.ps_reach.specs.Fillings.{Outcome, kept, passed, overrun, Fills}
-use Rattle.ps_reach.specs.Findings.{Finding, yes, no, stuck, limit, IsUnit, Shows, unit, no_paths, vanishing, nothing, Overlaps, passes, step_passes, shows, Compares, first_limit, second_limit, sums, IsJustified}
+use Rattle.ps_reach.specs.Parts.{IsRight, overrun_of, outcome_by}
+use Rattle.ps_reach.specs.Fillings.{kept, passed, overrun, Fills}
+use Rattle.ps_reach.specs.Findings.{Finding, yes, no, limit, IsUnit, Shows, unit, no_paths, Overlaps, passes, step_passes, shows, Compares, first_limit, second_limit, sums}
 use Rattle.ps_reach.specs.Judging.{outcome_of, finding_of, IsJudged}
 use Rattle.ps_reach.proofs.Reducing.{reduces_width}
 use Rattle.ps_reach.proofs.Denoting.{turns_few}
@@ -41,7 +36,6 @@ use Rattle.ps_normal.specs.declared.parts.Ended.{Ended}
 use Rattle.ps_normal.specs.declared.parts.Ended.TheVariants as ended
 use Rattle.ps_normal.specs.declared.comparing.Found.{Found}
 use Rattle.ps_normal.specs.Ends.{IsEnded}
-use Rattle.ps_normal.specs.Pieces.{Usable}
 use Rattle.ps_normal.specs.Comparing.{Comparable, Decides}
 use Rattle.ps_normal.specs.Fillings.{CanRun, IsRecordOf}
 use Rattle.ps_normal.specs.Founds.{Finds}

@@ -1,5 +1,5 @@
 -- Two segments one after the other.
-use Rattle.std.proofs.Common.{◌≡◌, ℕ, zero, suc, ◌+◌, ◌*◌, ◌<◌, ◌≤◌, refl, ap, ap₂, sym, ◌∙◌, subst, arith, Option, Some, None, List, [], ◌∷◌, ◌++◌, length, take, drop, get_or, map}
+use Rattle.std.proofs.Common.{◌≡◌, ℕ, zero, suc, ◌+◌, ◌*◌, ◌<◌, ◌≤◌, refl, ap, ap₂, sym, ◌∙◌, subst, arith, Some, List, [], ◌∷◌, ◌++◌, length, take, drop, get_or, map}
 use Rattle.std.proofs.lemmas.List.{take_more, take_all}
 use mathlib.Core.Logic.{∥∥₁_elim, ∥∥₁_map}
 use Rattle.std.proofs.Props.{props}
@@ -15,20 +15,18 @@ use Rattle.ps_sum.specs.declared.faults.JoinFault.{JoinFault}
 use Rattle.ps_sum.specs.declared.faults.JoinFault.TheVariants as fault
 use Rattle.ps_join.specs.Joining.{IsJoinOf, JoinFits, JoinPasses}
 use Rattle.ps_join.specs.Faults.{IsJoinFault}
-use Rattle.ps_rules.specs.declared.steps.Step.{Step}
 use Rattle.ps_rules.specs.declared.steps.Move.{Move}
-use Rattle.ps_rules.specs.declared.steps.Move.TheVariants as move
 use Rattle.ps_reach.specs.declared.evidence.Body.{Body}
 use Rattle.ps_reach.specs.declared.evidence.Body.TheVariants as body
 use Rattle.ps_reach.specs.declared.record.Record.{Record}
 use Rattle.ps_reach.specs.Normals.{IsNormalFor}
 use Rattle.ps_reach.specs.Overruns.{Overrun}
 use Rattle.ps_reach.specs.Replays.{Replays, done, leaf, ident, join, rewrite, Entry, Reaches}
-use Rattle.ps_reach.specs.Runs.{prims_of, AllItems, run_of}
-use Rattle.ps_reach.specs.Parts.{Scaled, IsScaled, IsRight, overrun_of, outcome_by}
+use Rattle.ps_reach.specs.Runs.{prims_of, run_of}
+use Rattle.ps_reach.specs.Parts.{IsScaled, IsRight}
 use Rattle.ps_reach.specs.Judging.{outcome_of}
-use Rattle.ps_reach.specs.Fillings.{Outcome, kept, passed, raised, Joins, passes, FillsBoth, overrun}
-use Rattle.ps_reach.proofs.Denoting.{Stands, normal_stands, stands_open, turns_few, within_both}
+use Rattle.ps_reach.specs.Fillings.{Outcome, passed, raised, Joins, passes, FillsBoth, overrun}
+use Rattle.ps_reach.proofs.Denoting.{normal_stands, stands_open, turns_few, within_both}
 use Rattle.ps_reach.proofs.Replaying.{length_both}
 use Rattle.ps_reach.proofs.Filling.{RightOutcome, both_right}
 use Rattle.ps_normal.specs.declared.parts.Part.{Part}

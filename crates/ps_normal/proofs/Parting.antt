@@ -1,5 +1,5 @@
 -- What one more prim and a join come to.
-use Rattle.std.proofs.Common.{◌≡◌, ℕ, ◌+◌, ◌*◌, ◌<◌, ◌≤◌, refl, ap, ap₂, sym, ◌∙◌, subst, arith, Option, Some, None, List, [], ◌∷◌, ◌++◌, length}
+use Rattle.std.proofs.Common.{◌≡◌, ℕ, ◌+◌, ◌*◌, ◌≤◌, ap, sym, ◌∙◌, subst, arith, Some, None, List, [], ◌∷◌, ◌++◌}
 use Rattle.std.proofs.lemmas.Int.{ints}
 use Rattle.std.specs.Prelude.{pos, negsuc, ◌+ℤ◌, ◌-ℤ◌, ◌≤ℤ◌}
 use Rattle.ps_prim.specs.declared.prims.Primitive.{Primitive as Prim}
@@ -15,11 +15,9 @@ use Rattle.ps_join.specs.Joining.{IsLeafOf, IsJoinOf, JoinFits, JoinPasses}
 use Rattle.ps_join.specs.OntoFaults.{IsOntoFault}
 use Rattle.ps_join.specs.declared.onto_fault.OntoFault.{OntoFault}
 use Rattle.ps_join.specs.declared.onto_fault.OntoFault.TheVariants as fault
-use Rattle.ps_reach.specs.declared.evidence.Evidence.{Evidence}
-use Rattle.ps_reach.specs.Reductions.{Reduces, normal, over, ReducesTo, Reduction, last_sum}
+use Rattle.ps_reach.specs.Reductions.{Reduces}
 use Rattle.ps_reach.specs.Overruns.{Overrun}
-use Rattle.ps_reach.specs.Fillings.{Outcome, kept, passed, Joins, passes, step_passes, reduces, Leaves, leaf_passes, leaf_reduces, overrun, rewrites, with_leaf, with_join}
-use Rattle.ps_reach.specs.Parts.{Scaled, overrun_of}
+use Rattle.ps_reach.specs.Fillings.{kept, passed, Joins, passes, step_passes, reduces, Leaves, leaf_passes, leaf_reduces, overrun, rewrites, with_leaf, with_join}
 use Rattle.ps_reach.proofs.Reducing.{reduces_n, reduces_width, reduces_scaled}
 use Rattle.ps_reach.proofs.Denoting.{leaf_scaled, join_scaled, scaled_more, denotes_open, join_open, turns_few}
 use Rattle.ps_normal.specs.declared.parts.Ended.{Ended}

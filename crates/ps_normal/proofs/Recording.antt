@@ -1,7 +1,6 @@
 -- Records of what segments came to.
-use Rattle.std.proofs.Common.{◌≡◌, ℕ, ◌+◌, ◌*◌, ◌<◌, ◌≤◌, refl, ap, ap₂, sym, ◌∙◌, subst, arith, Option, Some, None, List, [], ◌∷◌, ◌++◌, length, map}
+use Rattle.std.proofs.Common.{◌≡◌, ℕ, ap, sym, ◌∙◌, subst, Option, Some, List, [], ◌∷◌, ◌++◌}
 use Rattle.ps_prim.specs.declared.prims.Primitive.{Primitive as Prim}
-use Rattle.ps_prim.specs.Maps.{AllWithin}
 use Rattle.ps_sum.specs.declared.sums.PathSum.{PathSum}
 use Rattle.ps_rules.specs.declared.steps.Move.{Move}
 use Rattle.ps_rules.specs.declared.steps.Move.TheVariants.{Id}
@@ -9,11 +8,8 @@ use Rattle.ps_join.specs.Joining.{IsIdentityOf}
 use Rattle.ps_reach.specs.declared.evidence.Evidence.{Evidence}
 use Rattle.ps_reach.specs.declared.evidence.Body.{Body}
 use Rattle.ps_reach.specs.declared.evidence.Body.TheVariants as body
-use Rattle.ps_reach.specs.Normals.{IsNormalFor}
-use Rattle.ps_reach.specs.Overruns.{IsOver}
-use Rattle.ps_reach.specs.Replays.{Reaches}
 use Rattle.ps_reach.specs.Parts.{overrun_of, outcome_by, IsScaled, IsRight}
-use Rattle.ps_reach.specs.Fillings.{Outcome, kept, passed, FillsFrom, finished, Fills, no_prim}
+use Rattle.ps_reach.specs.Fillings.{kept, passed, finished, Fills, no_prim}
 use Rattle.ps_reach.proofs.Denoting.{normal_scaled}
 use Rattle.ps_reach.proofs.Filling.{RightOutcome, fills_right}
 use Rattle.ps_normal.specs.declared.parts.Taken.{Taken}

@@ -1,24 +1,23 @@
 -- One prim behind the other.
-use Rattle.std.proofs.Common.{◌≡◌, ℕ, zero, suc, ◌+◌, ◌*◌, ◌<◌, ◌≤◌, refl, ap, ap₂, sym, ◌∙◌, subst, arith, Option, Some, None, List, [], ◌∷◌, ◌++◌, length, take, drop, get_or, map}
+use Rattle.std.proofs.Common.{◌≡◌, ℕ, zero, suc, ◌+◌, ◌*◌, ◌<◌, ◌≤◌, refl, ap, sym, ◌∙◌, subst, arith, Option, Some, None, List, [], ◌∷◌, ◌++◌, length, drop, get_or, map}
 use Rattle.std.specs.declared.sync.Arc.{Arc}
 use Rattle.std.specs.declared.alloc.Global.{Global}
 use Rattle.ps_prim.specs.declared.prims.Primitive.{Primitive as Prim}
 use Rattle.ps_prim.specs.declared.items.Item.{Item}
 use Rattle.ps_prim.specs.Maps.{IsWithin, AllWithin}
-use Rattle.ps_prim.specs.Items.{IsItem}
 use Rattle.ps_sum.specs.declared.sums.PathSum.{PathSum}
 use Rattle.ps_rules.specs.declared.steps.Move.{Move}
 use Rattle.ps_reach.specs.declared.evidence.Evidence.{Evidence}
-use Rattle.ps_reach.specs.Runs.{prims_of, AllItems, run_of}
+use Rattle.ps_reach.specs.Runs.{prims_of, run_of}
 use Rattle.ps_reach.specs.Parts.{overrun_of}
-use Rattle.ps_reach.specs.Fillings.{Outcome, kept, passed, Joins, Leaves, FillsFrom, finished, leaf_over, join_over, next, Fills, no_prim, first_over, first}
-use Rattle.ps_reach.proofs.Denoting.{within_first, within_second, scaled_more}
+use Rattle.ps_reach.specs.Fillings.{Outcome, kept, passed, Joins, Leaves, FillsFrom, leaf_over, join_over, next, Fills, first_over, first}
+use Rattle.ps_reach.proofs.Denoting.{within_first, within_second}
 use Rattle.ps_reach.proofs.Replaying.{length_both}
 use Rattle.ps_normal.specs.declared.parts.Part.{Part}
 use Rattle.ps_normal.specs.declared.parts.Part.TheVariants as part
 use Rattle.ps_normal.specs.declared.parts.Taken.{Taken}
 use Rattle.ps_normal.specs.declared.parts.Taken.TheVariants as taken
-use Rattle.ps_normal.specs.Pieces.{PartIs, Usable, UsablePart, IsProgress, IsTaken}
+use Rattle.ps_normal.specs.Pieces.{PartIs, UsablePart, IsProgress, IsTaken}
 use Rattle.ps_normal.specs.Takings.{Takes, UsableHeld, UsableTaken}
 
 -- ---- one prim

@@ -1,5 +1,5 @@
 -- Segments of the tests.
-use Rattle.std.proofs.Common.{◌≡◌, ◌<◌, ◌≤◌, ℕ, ◌++◌, refl, ap, sym, subst, arith, List, [], ◌∷◌, length}
+use Rattle.std.proofs.Common.{◌≡◌, ℕ, ◌++◌, refl, ap, sym, subst, arith, List, [], ◌∷◌}
 use Rattle.ps_prim.specs.declared.prims.Primitive.{Primitive as Prim}
 use Rattle.ps_prim.specs.Maps.{AllWithin}
 use Rattle.ps_reach.specs.Runs.{run_of}

@@ -1,21 +1,16 @@
 -- Which segments can be filled, and what a filled record says.
 use Rattle.std.specs.Prelude.{ℕ, ◌≡◌, ◌≤◌, ◌+◌, List, ◌++◌, length}
-use Rattle.std.specs.declared.sync.Arc.{Arc}
-use Rattle.std.specs.declared.alloc.Global.{Global}
 use Rattle.ps_io.specs.Counts.{Rose}
 use Rattle.ps_prim.specs.declared.prims.Primitive.{Primitive as Prim}
 use Rattle.ps_prim.specs.Maps.{AllWithin}
-use Rattle.ps_sum.specs.declared.sums.PathSum.{PathSum}
 use Rattle.ps_rules.specs.declared.steps.Move.{Move}
 use Rattle.ps_reach.specs.declared.evidence.Body.{Body}
 use Rattle.ps_reach.specs.declared.evidence.Body.TheVariants.{Sum, Passed}
 use Rattle.ps_reach.specs.declared.record.Record.{Record}
-use Rattle.ps_reach.specs.declared.task.Task.{Task}
 use Rattle.ps_reach.specs.declared.task.Work.{Work}
 use Rattle.ps_reach.specs.declared.task.Work.TheVariants.{Items, Children}
 use Rattle.ps_reach.specs.Runs.{run_of}
-use Rattle.ps_reach.specs.Parts.{outcome_by}
-use Rattle.ps_reach.specs.Fillings.{Outcome, kept, Fills, FillsBoth}
+use Rattle.ps_reach.specs.Fillings.{Outcome, Fills, FillsBoth}
 use Rattle.ps_reach.specs.Judging.{outcome_of}
 use Rattle.ps_normal.specs.declared.filled.Filled.{Filled}
 use Rattle.ps_normal.specs.declared.filled.Filled.TheVariants.{Done, Stopped}

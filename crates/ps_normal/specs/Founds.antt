@@ -1,11 +1,10 @@
 -- What reducing an overlap finds.
-use Rattle.std.specs.Prelude.{ℕ, ◌≡◌, None}
+use Rattle.std.specs.Prelude.{◌≡◌, None}
 use Rattle.ps_sum.specs.declared.sums.PathSum.{PathSum}
 use Rattle.ps_sum.specs.declared.faults.Passed.{Passed}
-use Rattle.ps_rules.specs.declared.steps.Step.{Step}
 use Rattle.ps_reach.specs.Reductions.{normal, over, ReducesTo}
 use Rattle.ps_reach.specs.Fillings.{overrun}
-use Rattle.ps_reach.specs.Findings.{Finding, limit, Shows}
+use Rattle.ps_reach.specs.Findings.{limit, Shows}
 use Rattle.ps_reach.specs.Judging.{finding_of}
 use Rattle.ps_normal.specs.declared.comparing.Found.{Found}
 

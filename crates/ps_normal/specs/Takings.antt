@@ -1,5 +1,5 @@
 -- What some prims of a segment come to behind those before them.
-use Rattle.std.specs.Prelude.{ℕ, ◌≡◌, ◌+◌, List, Option, Some, None}
+use Rattle.std.specs.Prelude.{ℕ, List, Option, Some, None}
 use Rattle.ps_io.specs.Counts.{Rose}
 use Rattle.ps_prim.specs.declared.prims.Primitive.{Primitive as Prim}
 use Rattle.ps_sum.specs.declared.sums.PathSum.{PathSum}

@@ -1,7 +1,6 @@
 -- What normal sums denote, and their scale.
-use Rattle.std.proofs.Common.{◌≡◌, ℕ, zero, suc, ◌+◌, ◌*◌, ◌<◌, ◌≤◌, refl, ap, sym, ◌∙◌, subst, arith, Bool, true, false, List, [], ◌∷◌, ◌++◌, length}
+use Rattle.std.proofs.Common.{◌≡◌, ℕ, zero, suc, ◌+◌, ◌≤◌, refl, ap, sym, ◌∙◌, subst, arith, false, List, [], ◌∷◌, ◌++◌, length}
 use Rattle.std.proofs.lemmas.Int.{ints}
-use Rattle.std.specs.Prelude.{pos, ◌+ℤ◌, ◌≤ℤ◌}
 use Rattle.ps_prim.specs.declared.prims.Primitive.{Primitive as Prim}
 use Rattle.ps_prim.specs.declared.prims.Primitive.TheVariants.{U, Cx}
 use Rattle.ps_prim.specs.Amplitudes.{turns}
@@ -17,7 +16,7 @@ use Rattle.ps_rules.specs.declared.steps.Step.{Step}
 use Rattle.ps_rules.specs.declared.steps.Step.TheVariants.{Elim, Hh, Omega}
 use Rattle.ps_rules.specs.Rules.{Applies, IsIrreducible}
 use Rattle.ps_join.specs.Joining.{IsLeafOf, IsIdentityOf, IsJoinOf}
-use Rattle.ps_reach.specs.Reductions.{Reduces, normal, ReducesTo}
+use Rattle.ps_reach.specs.Reductions.{Reduces}
 use Rattle.ps_reach.specs.Normals.{IsNormalFor, none, one, two}
 use Rattle.ps_reach.specs.Parts.{Scaled}
 use Rattle.ps_ring.specs.Truths.{Truths}

@@ -1,20 +1,18 @@
 -- What a segment comes to is right for its prims.
-use Rattle.std.proofs.Common.{◌≡◌, ℕ, zero, suc, ◌+◌, ◌-◌, ◌<◌, ◌≤◌, refl, ap, ap₂, sym, ◌∙◌, subst, arith, Option, Some, None, List, [], ◌∷◌, ◌++◌, map, length, get_or, take, drop}
+use Rattle.std.proofs.Common.{◌≡◌, ℕ, ◌+◌, ◌-◌, ◌<◌, refl, ap, sym, ◌∙◌, subst, arith, List, [], ◌∷◌, ◌++◌, length, get_or, take, drop}
 use Rattle.ps_prim.specs.declared.prims.Primitive.{Primitive as Prim}
-use Rattle.ps_prim.specs.Maps.{IsWithin, AllWithin}
 use Rattle.ps_sum.specs.declared.sums.PathSum.{PathSum}
-use Rattle.ps_sum.specs.declared.faults.Passed.{Passed}
 use Rattle.ps_rules.specs.declared.steps.Step.{Step}
 use Rattle.ps_rules.specs.declared.steps.Move.{Move}
-use Rattle.ps_join.specs.Joining.{IsLeafOf, IsIdentityOf, IsJoinOf, JoinFits, JoinPasses}
-use Rattle.ps_reach.specs.Reductions.{Reduces, rest, normal, over, ReducesTo}
+use Rattle.ps_join.specs.Joining.{IsLeafOf, IsJoinOf, JoinFits}
+use Rattle.ps_reach.specs.Reductions.{Reduces, rest}
 use Rattle.ps_reach.specs.Normals.{IsNormalFor, none, one, two}
 use Rattle.ps_reach.specs.Overruns.{Overrun, part, TwoParts, Begins, leaf, joined, IsOver}
 use Rattle.ps_reach.specs.Replays.{Run, span, Meets, adjoin, Entry, entry, Replays, whole_run, Reaches}
 use Rattle.ps_reach.specs.Replays as replays
-use Rattle.ps_reach.specs.Fillings.{Outcome, kept, passed, Joins, passes, step_passes, reduces, Leaves, leaf_passes, leaf_reduces, FillsFrom, finished, leaf_over, join_over, next, Fills, no_prim, first_over, first, with_leaf, with_join, overrun, raised, rewrites, FillsBoth}
+use Rattle.ps_reach.specs.Fillings.{Outcome, kept, passed, Joins, passes, step_passes, reduces, Leaves, leaf_passes, leaf_reduces, FillsFrom, finished, leaf_over, join_over, next, Fills, no_prim, first_over, first, with_leaf, with_join, FillsBoth}
 use Rattle.ps_reach.proofs.Denoting.{identity_irreducible}
-use Rattle.ps_reach.proofs.Replaying.{moved, replays_more, replays_rewrites, length_both, reaches_both, runs_meet}
+use Rattle.ps_reach.proofs.Replaying.{replays_more, replays_rewrites, length_both, reaches_both, runs_meet}
 
 abbrev pub RightOutcome : ℕ → List Prim → Outcome → Type 0
 RightOutcome n A (kept S ms) = IsNormalFor n A S × Reaches n A ms S

@@ -1,16 +1,15 @@
 -- A segment comes to one thing.
-use Rattle.std.proofs.Common.{◌≡◌, ℕ, ◌+◌, refl, ap, ap₂, sym, ◌∙◌, subst, Option, Some, None, List, [], ◌∷◌, ◌++◌}
+use Rattle.std.proofs.Common.{◌≡◌, ℕ, ◌+◌, refl, ap, sym, ◌∙◌, subst, Some, None, List, [], ◌∷◌}
 use Rattle.ps_prim.specs.declared.prims.Primitive.{Primitive as Prim}
 use Rattle.ps_sum.specs.declared.sums.PathSum.{PathSum}
 use Rattle.ps_sum.specs.declared.faults.Passed.{Passed}
 use Rattle.ps_rules.specs.declared.steps.Step.{Step}
 use Rattle.ps_rules.specs.declared.steps.Move.{Move}
 use Rattle.ps_rules.specs.declared.steps.Move.TheVariants.{Id}
-use Rattle.ps_join.specs.Joining.{IsLeafOf, IsIdentityOf, IsJoinOf, JoinFits, JoinPasses}
-use Rattle.ps_reach.specs.Reductions.{Reduction, normal, over, last_sum, ReducesTo}
+use Rattle.ps_reach.specs.Reductions.{normal, over, ReducesTo}
 use Rattle.ps_reach.specs.Overruns.{Overrun}
 use Rattle.ps_reach.specs.Fillings.{Outcome, kept, passed, Joins, passes, step_passes, reduces, Leaves, leaf_passes, leaf_reduces, FillsFrom, finished, leaf_over, join_over, next, Fills, no_prim, first_over, first, with_leaf, with_join, overrun}
-use Rattle.ps_reach.proofs.Reducing.{OneEnd, reduces_only}
+use Rattle.ps_reach.proofs.Reducing.{reduces_only}
 use Rattle.ps_join.proofs.Only.{leaf_only, identity_only, join_only, passed_only, fits_or_passes}
 
 -- ---- the two ends of reducing

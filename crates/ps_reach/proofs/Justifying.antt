@@ -1,38 +1,32 @@
 -- What comparing finds is one thing, and is justified.
-use Rattle.std.proofs.Common.{◌≡◌, ℕ, zero, suc, ◌+◌, ◌-◌, ◌%◌, ◌<◌, ◌≤◌, refl, ap, ap₂, sym, ◌∙◌, subst, arith, Option, Some, None, List, [], ◌∷◌, ◌++◌, length, take, drop, ◌⊎◌, inl, inr}
+use Rattle.std.proofs.Common.{◌≡◌, ℕ, ◌-◌, ◌%◌, ◌<◌, refl, ap, sym, ◌∙◌, subst, arith, Some, None, List, [], ◌∷◌, ◌++◌, length, take, ◌⊎◌, inl, inr}
 use Rattle.std.proofs.lemmas.Bool.{cases_lt}
 use Rattle.std.specs.Prelude.{pos}
 use Rattle.ps_ring.specs.Truths.{Truths, bit}
-use Rattle.ps_ring.specs.Sums.{PathValues, signed_count}
-use Rattle.ps_ring.specs.Readings.{taken}
 use Rattle.ps_ring.specs.Joins.{OverlapSum}
-use Rattle.ps_ring.specs.Numbers.{SameScaled, one}
-use Rattle.ps_ring.specs.Steps.{SameNumber}
 use Rattle.ps_ring.proofs.Turned.{one_number}
 use Rattle.ps_ring.proofs.Roots.{same_sym, same_trans}
 use Rattle.ps_ring.proofs.StepLaws.{signed_number}
 use Rattle.ps_prim.specs.declared.prims.Primitive.{Primitive as Prim}
-use Rattle.ps_prim.specs.Maps.{AllWithin, SameMap, SameAt, DiffersAt}
+use Rattle.ps_prim.specs.Maps.{AllWithin, SameAt, DiffersAt}
 use Rattle.ps_prim.specs.Overlaps.{IsOne}
 use Rattle.ps_prim.proofs.Overlaps.{overlap_one, overlap_not_one}
 use Rattle.ps_prim.proofs.ClosedSums.{plain_is_one}
 use Rattle.ps_phase.specs.Phases.{phase_value}
 use Rattle.ps_sum.specs.declared.sums.PathSum.{PathSum}
-use Rattle.ps_sum.specs.declared.faults.Passed.{Passed}
 use Rattle.ps_sum.specs.Outs.{values}
 use Rattle.ps_sum.specs.Sums.{path_values}
 use Rattle.ps_sum.proofs.Uniqueness.{taken_length}
 use Rattle.ps_rules.specs.declared.steps.Step.{Step}
-use Rattle.ps_rules.specs.declared.steps.Move.{Move}
-use Rattle.ps_overlap.specs.Overlapping.{IsOverlapOf, OverlapPasses, Vanishes, LeastVanishing, NoneVanishes, point, IsLeastPoint, IsFirstPoint}
-use Rattle.ps_reach.specs.Reductions.{Reduces, normal, over, ReducesTo}
+use Rattle.ps_overlap.specs.Overlapping.{IsOverlapOf, Vanishes, LeastVanishing, point, IsLeastPoint}
+use Rattle.ps_reach.specs.Reductions.{Reduces, normal, ReducesTo}
 use Rattle.ps_reach.specs.Normals.{IsNormalFor}
-use Rattle.ps_reach.specs.Overruns.{Overrun, part, IsOver, IsOverlapOver}
-use Rattle.ps_reach.specs.Fillings.{Outcome, kept, passed, overrun}
-use Rattle.ps_reach.specs.Findings.{Finding, yes, no, stuck, limit, IsUnit, Shows, unit, no_paths, vanishing, nothing, Overlaps, passes, step_passes, shows, Compares, first_limit, second_limit, sums, IsOverIn, IsStuck, IsJustified}
+use Rattle.ps_reach.specs.Overruns.{Overrun, part, IsOver}
+use Rattle.ps_reach.specs.Fillings.{Outcome, overrun}
+use Rattle.ps_reach.specs.Findings.{Finding, no, limit, IsUnit, Shows, unit, no_paths, vanishing, nothing, Overlaps, passes, step_passes, shows, Compares, first_limit, second_limit, sums, IsOverIn, IsJustified}
 use Rattle.ps_reach.proofs.Reducing.{reduces_n, reduces_width, reduces_number}
 use Rattle.ps_reach.proofs.Denoting.{Stands, normal_stands}
-use Rattle.ps_reach.proofs.FillsOnce.{SameNormal, SameOver, normals_once, overs_once, normal_or_over}
+use Rattle.ps_reach.proofs.FillsOnce.{normals_once, overs_once, normal_or_over}
 use Rattle.ps_reach.proofs.Filling.{RightOutcome, take_whole}
 use Rattle.ps_overlap.proofs.Overlapped.{overlap_only, overlap_passes_once, overlap_passes_not}
 use Rattle.ps_overlap.proofs.LeastPoints.{vanishing_not_one, first_point_not_one, first_point_only, least_point_only}

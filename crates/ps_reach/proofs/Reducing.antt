@@ -1,25 +1,21 @@
 -- Reducing a sum: one way, and it keeps what the sum denotes.
-use Rattle.std.proofs.Common.{◌≡◌, ℕ, zero, suc, ◌+◌, ◌*◌, refl, ap, sym, ◌∙◌, subst, arith, List, [], ◌∷◌, ◌++◌, length, Bool, true, false}
+use Rattle.std.proofs.Common.{◌≡◌, ℕ, zero, suc, refl, ap, sym, ◌∙◌, subst, arith, List, [], ◌∷◌, ◌++◌, length, Bool, false}
 use Rattle.std.proofs.lemmas.Int.{ints}
-use Rattle.std.specs.Prelude.{pos, ◌+ℤ◌, ◌≤ℤ◌}
 use Rattle.ps_ring.specs.Truths.{Truths, bit}
-use Rattle.ps_ring.specs.Numbers.{SameScaled}
 use Rattle.ps_ring.specs.Steps.{SameNumber}
 use Rattle.ps_ring.specs.Sums.{signed_count}
 use Rattle.ps_ring.proofs.Roots.{same_reflexive, same_sym, same_trans}
 use Rattle.ps_ring.proofs.StepLaws.{signed_number}
 use Rattle.ps_prim.specs.declared.prims.Primitive.{Primitive as Prim}
-use Rattle.ps_prim.specs.Amplitudes.{amplitude, turns}
 use Rattle.ps_prim.specs.Sums.{Denotes}
 use Rattle.ps_prim.proofs.Columns.{amplitude_number}
 use Rattle.ps_sum.specs.declared.sums.PathSum.{PathSum}
-use Rattle.ps_sum.specs.declared.faults.Passed.{Passed}
 use Rattle.ps_sum.specs.Outs.{values}
 use Rattle.ps_sum.specs.Sums.{path_values}
 use Rattle.ps_sum.proofs.Closings.{length_values}
 use Rattle.ps_rules.specs.declared.steps.Step.{Step}
 use Rattle.ps_rules.specs.declared.steps.Step.TheVariants.{Elim, Hh, Omega}
-use Rattle.ps_rules.specs.Rules.{Applies, Applied, Lowered, FirstStep, IsIrreducible, StepFits, StepPasses}
+use Rattle.ps_rules.specs.Rules.{Applies, Applied, FirstStep, StepFits, StepPasses}
 use Rattle.ps_rules.proofs.Firsts.{first_only}
 use Rattle.ps_rules.proofs.Only.{applied_only}
 use Rattle.ps_rules.proofs.Limits.{passes_once, passes_not_fits}

@@ -1,14 +1,13 @@
 -- What comparing two segments finds, and what it claims.
-use Rattle.std.specs.Prelude.{ℕ, ◌≡◌, ◌≢◌, ◌≤◌, ◌<◌, ◌⊎◌, Option, Some, None, List, [], ◌∷◌, length, pos}
+use Rattle.std.specs.Prelude.{ℕ, ◌≡◌, ◌<◌, ◌⊎◌, Some, None, List, [], pos}
 use Rattle.ps_prim.specs.declared.prims.Primitive.{Primitive as Prim}
 use Rattle.ps_prim.specs.Maps.{SameMap, DiffersAt}
 use Rattle.ps_sum.specs.declared.sums.PathSum.{PathSum}
 use Rattle.ps_sum.specs.declared.faults.Passed.{Passed}
 use Rattle.ps_rules.specs.declared.steps.Step.{Step}
 use Rattle.ps_rules.specs.declared.steps.Move.{Move}
-use Rattle.ps_rules.specs.Rules.{IsIrreducible}
 use Rattle.ps_overlap.specs.Overlapping.{IsOverlapOf, OverlapPasses, LeastVanishing, NoneVanishes, point, IsLeastPoint, IsFirstPoint}
-use Rattle.ps_reach.specs.Reductions.{Reduces, normal, over, ReducesTo}
+use Rattle.ps_reach.specs.Reductions.{normal, over, ReducesTo}
 use Rattle.ps_reach.specs.Normals.{IsNormalFor}
 use Rattle.ps_reach.specs.Overruns.{Overrun, part, IsOver, IsOverlapOver}
 use Rattle.ps_reach.specs.Fillings.{Outcome, kept, passed, overrun}

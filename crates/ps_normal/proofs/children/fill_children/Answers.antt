@@ -1,8 +1,7 @@
-use Rattle.std.proofs.Common.{◌≡◌, ◌≤◌, ◌+◌, ◌++◌, ap, ap₂, sym, ◌∙◌, subst, length, map, List}
+use Rattle.std.proofs.Common.{◌≤◌, ◌++◌, ap, ap₂, sym, ◌∙◌, subst, length, List}
 use Rattle.std.proofs.lemmas.Result.{IfOk-weaker}
 use Rattle.ps_prim.specs.declared.prims.Primitive.{Primitive as Prim}
 use Rattle.ps_reach.specs.Runs.{run_of}
-use Rattle.ps_reach.specs.Fillings.{raised}
 use Rattle.ps_normal.specs.Places.{AllPlaced}
 use Rattle.ps_normal.proofs.Pairs.{record_placed, records_joinable, both_run, children_right, filled_both, places_at, moves_both}
 use Rattle.ps_normal.proofs.children.fill_children.Goals as goal

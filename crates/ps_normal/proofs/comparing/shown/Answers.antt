@@ -1,4 +1,3 @@
-use Rattle.std.proofs.Common.{refl}
 use Rattle.ps_reach.specs.Findings.{vanishing, nothing}
 use Rattle.ps_normal.proofs.Finding.{some_path, none_vanishes}
 use Rattle.ps_normal.proofs.comparing.shown.Goals as goal

@@ -1,4 +1,4 @@
-use Rattle.std.proofs.Common.{sym, subst, length}
+use Rattle.std.proofs.Common.{sym, subst}
 use Rattle.ps_reach.specs.Runs.{run_of}
 use Rattle.ps_reach.specs.Fillings.{Fills}
 use Rattle.ps_reach.proofs.Filling.{fills_right}

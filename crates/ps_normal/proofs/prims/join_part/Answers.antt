@@ -1,5 +1,4 @@
-use Rattle.std.proofs.Common.{◌≡◌, ◌+◌, refl}
-use Rattle.ps_join.specs.Joining.{JoinPasses}
+use Rattle.std.proofs.Common.{◌+◌, refl}
 use Rattle.std.proofs.lemmas.Result.{IfOk-weaker}
 use Rattle.ps_normal.proofs.Parting.{join_passed, usable_join, usable_floor, ended_at, onto_fault}
 use Rattle.ps_normal.proofs.prims.join_part.Goals as goal

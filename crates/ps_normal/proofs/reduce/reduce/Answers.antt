@@ -1,5 +1,5 @@
 use Rattle.std.proofs.Common.{arith}
-use Rattle.ps_normal.proofs.Floors.{applied_floor, room, reached_start, reached_more}
+use Rattle.ps_normal.proofs.Floors.{applied_floor, reached_start, reached_more}
 use Rattle.ps_normal.proofs.reduce.reduce.Goals as goal
 
 pub reducing-init : goal.reducing-init

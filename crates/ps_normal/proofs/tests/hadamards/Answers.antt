@@ -1,7 +1,6 @@
-use Rattle.std.proofs.Common.{arith, subst, sym, ◌∙◌, ap, ap₂, List, [], ◌∷◌, ◌<◌}
+use Rattle.std.proofs.Common.{arith, subst, sym, ◌∙◌, ap₂, [], ◌∷◌}
 use Rattle.std.proofs.lemmas.Result.{IfOk-weaker}
 use Rattle.ps_prim.specs.declared.prims.Primitive.{Primitive as Prim}
-use Rattle.ps_prim.specs.declared.prims.Primitive.TheVariants.{U}
 use Rattle.ps_prim.specs.Maps.{AllWithin}
 use Rattle.ps_normal.proofs.TestRuns.{one_runs}
 use Rattle.ps_normal.proofs.tests.hadamards.Goals as goal

@@ -1,4 +1,4 @@
-use Rattle.std.proofs.Common.{ap, ◌∙◌, List, map}
+use Rattle.std.proofs.Common.{ap, ◌∙◌, map}
 use Rattle.ps_reach.specs.Runs.{prims_of}
 use Rattle.ps_normal.proofs.TestRuns.{none_runs}
 use Rattle.ps_normal.proofs.tests.nothing.Goals as goal
