@@ -1,143 +1,104 @@
 -- There is one answer to an input.
-use Rattle.std.proofs.Common.{◌≡◌, ◌≢◌, ℕ, zero, suc, ◌+◌, ◌-◌, ◌*◌, ◌%◌, refl, ap, ap₂, sym, ◌∙◌, subst, arith, ◌<◌, ◌≤◌, Bool, true, false, List, [], ◌∷◌, ◌++◌, length, get_or, take, map, codes, Option, Some, None, ◌⊎◌, inl, inr}
-use Rattle.std.proofs.lemmas.Bool.{cases_lt, cases_order}
-use Rattle.std.proofs.lemmas.List.{get_or_default}
-use Rattle.ps_mono.specs.Truth.{differ}
-use Rattle.ps_bool.specs.Polys.{bool_value, occurs, IsPoly}
-use Rattle.ps_phase.specs.declared.terms.Term.{Term}
-use Rattle.ps_phase.specs.Phases.{phase_value, phase_occurs, IsPhasePoly, SameTurns}
-use Rattle.ps_phase.proofs.Unique.{same_terms}
-use Rattle.ps_phase.proofs.Values.{phase_agree}
+use Rattle.std.proofs.Common.{◌≡◌, ℕ, refl, ap, sym, ◌∙◌, subst, arith, ◌<◌, ◌≤◌, List, [], ◌∷◌, ◌++◌, length, map, codes, Option, Some, None}
 use Rattle.ps_prim.specs.declared.prims.Primitive.{Primitive as Prim}
-use Rattle.ps_prim.specs.Amplitudes.{Truths, bit}
-use Rattle.ps_prim.specs.Maps.{SameMap, DiffersAt}
+use Rattle.ps_sum.specs.declared.sums.PathSum.{PathSum}
+use Rattle.ps_sum.specs.declared.faults.Passed.{Passed as Limit}
+use Rattle.ps_rules.specs.declared.steps.Step.{Step}
+use Rattle.ps_overlap.specs.Overlapping.{point}
+use Rattle.ps_reach.specs.Overruns.{Overrun}
+use Rattle.ps_reach.specs.Fillings.{Outcome}
+use Rattle.ps_reach.specs.Findings.{Finding, yes, no, stuck, limit, Compares}
+use Rattle.ps_reach.proofs.FillsOnce.{fills_only}
+use Rattle.ps_reach.proofs.Justifying.{compares_only}
+use Rattle.ps_normal.specs.Comparing.{Decides}
 use Rattle.pathsum.specs.declared.answer.Answer.{Answer}
-use Rattle.pathsum.specs.declared.answer.Answer.TheVariants.{Yes, No, Passed, Words, NotYet, Read, TooLong, Memory}
+use Rattle.pathsum.specs.declared.answer.Answer.TheVariants.{Yes, No, Stuck, Passed, Words, NotYet, Read, TooLong, Memory}
 use Rattle.pathsum.specs.declared.input.Input.{Input}
-use Rattle.pathsum.specs.Answers.{status_of, line_of}
-use Rattle.pathsum.specs.Composed.{outputs_of, turn_of, IsPolyOf, IsPhaseOf}
-use Rattle.pathsum.specs.Inputs.{input_of, bit_code}
-use Rattle.pathsum.specs.Limits.{RawCount, IsWithinTo, IsWithinLimit, FirstPassed}
+use Rattle.pathsum.specs.Answers.{status_of, line_of, limit_words}
+use Rattle.pathsum.specs.Inputs.{bit_code}
 use Rattle.pathsum.specs.Plain.{IsOnePair, IsNoPair, SpellsPair}
-use Rattle.pathsum.specs.Verdicts.{OutputDifference, PhaseDifference, NoOutput, LeastOutput, LeastPhase, IsFirstDifference, output, phase, Decides}
+use Rattle.pathsum.specs.Verdicts.{Says, says_yes, says_no, says_stuck, says_passed, IsVerdict}
 use Rattle.pathsum.specs.Ended.{Judges, Deserves, Answers, IsSame, IsOfInput, Agree, IsOneAnswer}
-use Rattle.pathsum.proofs.Comparing.{length-input, input_below}
-use Rattle.pathsum.proofs.Counting.{front, length-front, bit-front, poly_one, raw_one}
-
--- there is one phase polynomial for given values
-phase_one : (n : ℕ) (h : Truths → ℕ) (f g : List Term) → IsPhaseOf n h f → IsPhaseOf n h g → f ≡ g
-phase_one n h f g wf wg = same_terms f g wf.form wg.form (λ a. at a f wf ∙ sym (at a g wg))
-  where
-    at : (a : ℕ → Bool) (p : List Term) → IsPhaseOf n h p → phase_value p a % 4294967296 ≡ h (front a 0 n) % 4294967296
-    at a p w = ap (λ k. k % 4294967296) (phase_agree p a (bit (front a 0 n)) (λ v o. let l : v < n = input_below n v (phase_occurs v p) (w.inputs v) o in let e : 0 + v ≡ v = omega arith in ap a (sym e) ∙ sym (bit-front a 0 n v l)))
-        ∙ w.value (front a 0 n) (length-front a 0 n)
-
-not_none : {X : Type 0} (m : X) (d : List X) → [] ≡ m ∷ d → ⊥
-not_none m d e = cc
-
-head : {X : Type 0} {m k : X} {d e : List X} → m ∷ d ≡ k ∷ e → m ≡ k
-head e = cc
-
--- one least monomial of the outputs
-output_one : (n : ℕ) (A B : List Prim) (m k : List ℕ) → LeastOutput n A B m → LeastOutput n A B k → m ≡ k
-output_one n A B m k v w = by (cases_order v.q w.q)
-  where
-    by : ((v.q ≡ w.q) ⊎ ((v.q < w.q) ⊎ (w.q < v.q))) → m ≡ k
-    by (inl e) = head (poly_one n _ (m ∷ v.rest) (k ∷ w.rest) v.difference (subst (λ (q : ℕ). OutputDifference n A B q (k ∷ w.rest)) (sym e) w.difference))
-    by (inr (inl l)) = absurd (not_none m v.rest (poly_one n _ [] (m ∷ v.rest) (w.first v.q l) v.difference))
-    by (inr (inr l)) = absurd (not_none k w.rest (poly_one n _ [] (k ∷ w.rest) (v.first w.q l) w.difference))
-
-mono_of : {m k : List ℕ} {p q : ℕ} {d e : List Term} → record { mono = m; phase = p } ∷ d ≡ record { mono = k; phase = q } ∷ e → m ≡ k
-mono_of e = ap (λ (t : Term). t.mono) (head e)
-
-phase_least_one : (n : ℕ) (A B : List Prim) (m k : List ℕ) → LeastPhase n A B m → LeastPhase n A B k → m ≡ k
-phase_least_one n A B m k v w = mono_of (phase_one n _ (record { mono = m; phase = v.turn } ∷ v.rest) (record { mono = k; phase = w.turn } ∷ w.rest) v.difference w.difference)
-
-none_least : (n : ℕ) (A B : List Prim) (m : List ℕ) → NoOutput n A B → LeastOutput n A B m → ⊥
-none_least n A B m o w = not_none m w.rest (poly_one n _ [] (m ∷ w.rest) (o w.q w.below) w.difference)
-
-first_one : (n : ℕ) (A B : List Prim) (x y : Truths) → IsFirstDifference n A B x → IsFirstDifference n A B y → x ≡ y
-first_one n A B x y (output m v e) (output k w f) = e ∙ ap (input_of n) (output_one n A B m k v w) ∙ sym f
-first_one n A B x y (output m v e) (phase k o w f) = absurd (none_least n A B m o v)
-first_one n A B x y (phase m o v e) (output k w f) = absurd (none_least n A B k o w)
-first_one n A B x y (phase m o v e) (phase k o' w f) = e ∙ ap (input_of n) (phase_least_one n A B m k v w) ∙ sym f
-
-same_not_differs : (n : ℕ) (A B : List Prim) (m : List ℕ) → SameMap n A B → DiffersAt n A B (input_of n m) → ⊥
-same_not_differs n A B m s (z, l, (j, d)) = d (s (input_of n m) (length-input n m) z l j)
-
-within_not_passed : (n count : ℕ) (A : List Prim) → IsWithinLimit n A → FirstPassed n A count → ⊥
-within_not_passed n count A w p = let l : count ≤ 65536 = w p.place p.prim count p.below p.there p.made in omega (arith, l, p.over)
-
-passed_one : (n c d : ℕ) (A : List Prim) → FirstPassed n A c → FirstPassed n A d → c ≡ d
-passed_one n c d A p r = by (cases_order p.place r.place)
-  where
-    same_prim : p.place ≡ r.place → p.prim ≡ r.prim
-    same_prim e = p.there ∙ get_or_default A p.place p.prim r.prim p.below ∙ ap (λ i. get_or A i r.prim) e ∙ sym r.there
-
-    by : ((p.place ≡ r.place) ⊎ ((p.place < r.place) ⊎ (r.place < p.place))) → c ≡ d
-    by (inl e) = raw_one n (take p.place A) p.prim c d p.made (subst (λ (i : ℕ). RawCount n (take i A) p.prim d) (sym e) (subst (λ (g : Prim). RawCount n (take r.place A) g d) (sym (same_prim e)) r.made))
-    by (inr (inl l)) = let k : c ≤ 65536 = r.first p.place p.prim c l p.there p.made in absurd (omega (arith, k, p.over))
-    by (inr (inr l)) = let k : d ≤ 65536 = p.first r.place r.prim d l r.there r.made in absurd (omega (arith, k, r.over))
-
-no_agree : (n : ℕ) (i k : Input) → i.qubits ≡ n → k.qubits ≡ n → input_of n i.at ≡ input_of n k.at → Agree (No i) (No k)
-no_agree n i k e f s = record {
-  status = refl;
-  line = ap (λ (z : Truths). codes "no " ++ map bit_code z ++ 10 ∷ []) (ap (λ j. input_of j i.at) e ∙ s ∙ ap (λ j. input_of j k.at) (sym f));
-}
-
-passed_agree : (c d : ℕ) → c ≡ d → Agree (Passed c) (Passed d)
-passed_agree c d e = subst (λ (k : ℕ). Agree (Passed c) (Passed k)) e (record { status = refl; line = refl })
 
 same_agree : (a : Answer) → Agree a a
 same_agree a = record { status = refl; line = refl }
 
+no_agree : (n : ℕ) (i k : Input) → i.qubits ≡ n → k.qubits ≡ n → i.at ≡ k.at → Agree (No i) (No k)
+no_agree n i k e f s = record {
+  status = refl;
+  line = ap (λ q. codes "no " ++ map bit_code (point q i.at) ++ 10 ∷ []) (e ∙ sym f) ∙ ap (λ b. codes "no " ++ map bit_code (point k.qubits b) ++ 10 ∷ []) s;
+}
+
+stuck_agree : (S T : PathSum) → S ≡ T → Agree (Stuck S) (Stuck T)
+stuck_agree S T e = subst (λ R. Agree (Stuck S) (Stuck R)) e (same_agree (Stuck S))
+
+passed_agree : (p q : Limit) → p ≡ q → Agree (Passed p) (Passed q)
+passed_agree p q e = subst (λ r. Agree (Passed p) (Passed r)) e (same_agree (Passed p))
+
+-- ---- one finding is told in one way
+yes_not_no : {b : List ℕ} → yes ≡ no b → ⊥
+yes_not_no e = cc
+
+yes_not_stuck : {S : PathSum} → yes ≡ stuck S → ⊥
+yes_not_stuck e = cc
+
+yes_not_limit : {o : Overrun} → yes ≡ limit o → ⊥
+yes_not_limit e = cc
+
+no_not_stuck : {b : List ℕ} {S : PathSum} → no b ≡ stuck S → ⊥
+no_not_stuck e = cc
+
+no_not_limit : {b : List ℕ} {o : Overrun} → no b ≡ limit o → ⊥
+no_not_limit e = cc
+
+stuck_not_limit : {S : PathSum} {o : Overrun} → stuck S ≡ limit o → ⊥
+stuck_not_limit e = cc
+
+no_bits : (b c : List ℕ) → no b ≡ no c → b ≡ c
+no_bits b c e = cc
+
+stuck_sums : (S T : PathSum) → stuck S ≡ stuck T → S ≡ T
+stuck_sums S T e = cc
+
+limit_overruns : (o p : Overrun) → limit o ≡ limit p → o ≡ p
+limit_overruns o p e = cc
+
+says_one : (n : ℕ) (f g : Finding) (a b : Answer) → f ≡ g → Says n f a → Says n g b → Agree a b
+says_one n f g a b e says_yes says_yes = same_agree Yes
+says_one n f g a b e says_yes (says_no p q) = absurd (yes_not_no e)
+says_one n f g a b e says_yes says_stuck = absurd (yes_not_stuck e)
+says_one n f g a b e says_yes (says_passed p) = absurd (yes_not_limit e)
+says_one n f g a b e (says_no p q) says_yes = absurd (yes_not_no (sym e))
+says_one n f g a b e (says_no {input = i} {bits = c} p q) (says_no {input = k} {bits = d} r s) = no_agree n i k p r (sym q ∙ no_bits c d e ∙ s)
+says_one n f g a b e (says_no p q) says_stuck = absurd (no_not_stuck e)
+says_one n f g a b e (says_no p q) (says_passed r) = absurd (no_not_limit e)
+says_one n f g a b e says_stuck says_yes = absurd (yes_not_stuck (sym e))
+says_one n f g a b e says_stuck (says_no p q) = absurd (no_not_stuck (sym e))
+says_one n f g a b e (says_stuck {S = S}) (says_stuck {S = T}) = stuck_agree S T (stuck_sums S T e)
+says_one n f g a b e says_stuck (says_passed p) = absurd (stuck_not_limit e)
+says_one n f g a b e (says_passed p) says_yes = absurd (yes_not_limit (sym e))
+says_one n f g a b e (says_passed p) (says_no q r) = absurd (no_not_limit (sym e))
+says_one n f g a b e (says_passed p) says_stuck = absurd (stuck_not_limit (sym e))
+says_one n f g a b e (says_passed {e = o} {passed = x} p) (says_passed {e = u} {passed = y} q) = passed_agree x y (p ∙ ap (λ (z : Overrun). z.passed) (limit_overruns o u e) ∙ sym q)
+
+-- ---- two comparisons of the same lists find the same
+finding_one : (n : ℕ) (A B : List Prim) (ss ts : List Step) (f g : Finding) → Decides n A B ss f → Decides n A B ts g → f ≡ g
+finding_one n A B ss ts f g d e =
+    let c = subst (λ o. Compares d.first o ts g) (fills_only e.second_fills d.second_fills) (subst (λ o. Compares o e.second ts g) (fills_only e.first_fills d.first_fills) e.compares) in
+    (compares_only d.compares c).found
+
 -- of two answers to one pair
-decides_one : (n : ℕ) (A B : List Prim) (a b : Answer) → Decides n A B a → Decides n A B b → Agree a b
-decides_one n A B Yes Yes d e = same_agree Yes
-decides_one n A B Yes (No k) d e = absurd (same_not_differs n A B k.at d.2 e.4)
-decides_one n A B Yes (Passed c) d (inl p) = absurd (within_not_passed n c A d.0 p)
-decides_one n A B Yes (Passed c) d (inr p) = absurd (within_not_passed n c B d.1 p.1)
-decides_one n A B Yes Words d e = absurd e
-decides_one n A B Yes NotYet d e = absurd e
-decides_one n A B Yes Read d e = absurd e
-decides_one n A B Yes TooLong d e = absurd e
-decides_one n A B Yes Memory d e = absurd e
-decides_one n A B (No i) Yes d e = absurd (same_not_differs n A B i.at e.2 d.4)
-decides_one n A B (No i) (No k) d e = no_agree n i k d.2 e.2 (first_one n A B _ _ d.3 e.3)
-decides_one n A B (No i) (Passed c) d (inl p) = absurd (within_not_passed n c A d.0 p)
-decides_one n A B (No i) (Passed c) d (inr p) = absurd (within_not_passed n c B d.1 p.1)
-decides_one n A B (No i) Words d e = absurd e
-decides_one n A B (No i) NotYet d e = absurd e
-decides_one n A B (No i) Read d e = absurd e
-decides_one n A B (No i) TooLong d e = absurd e
-decides_one n A B (No i) Memory d e = absurd e
-decides_one n A B (Passed c) Yes (inl p) e = absurd (within_not_passed n c A e.0 p)
-decides_one n A B (Passed c) Yes (inr p) e = absurd (within_not_passed n c B e.1 p.1)
-decides_one n A B (Passed c) (No k) (inl p) e = absurd (within_not_passed n c A e.0 p)
-decides_one n A B (Passed c) (No k) (inr p) e = absurd (within_not_passed n c B e.1 p.1)
-decides_one n A B (Passed c) (Passed k) (inl p) (inl r) = passed_agree c k (passed_one n c k A p r)
-decides_one n A B (Passed c) (Passed k) (inl p) (inr r) = absurd (within_not_passed n c A r.0 p)
-decides_one n A B (Passed c) (Passed k) (inr p) (inl r) = absurd (within_not_passed n k A p.0 r)
-decides_one n A B (Passed c) (Passed k) (inr p) (inr r) = passed_agree c k (passed_one n c k B p.1 r.1)
-decides_one n A B (Passed c) Words d e = absurd e
-decides_one n A B (Passed c) NotYet d e = absurd e
-decides_one n A B (Passed c) Read d e = absurd e
-decides_one n A B (Passed c) TooLong d e = absurd e
-decides_one n A B (Passed c) Memory d e = absurd e
-decides_one n A B Words b d e = absurd d
-decides_one n A B NotYet b d e = absurd d
-decides_one n A B Read b d e = absurd d
-decides_one n A B TooLong b d e = absurd d
-decides_one n A B Memory b d e = absurd d
+verdict_one : (n : ℕ) (A B : List Prim) (a b : Answer) → IsVerdict n A B a → IsVerdict n A B b → Agree a b
+verdict_one n A B a b d e = says_one n d.finding e.finding a b (finding_one n A B d.steps e.steps d.finding e.finding d.decided e.decided) d.told e.told
 
 -- an answer to the one pair that the bytes spell
 abbrev OnPair : List ℕ → Answer → Type 0
-OnPair bytes a = (n : ℕ) × (A : List Prim) × (B : List Prim) × IsOnePair bytes n A B × Decides n A B a
+OnPair bytes a = (n : ℕ) × (A : List Prim) × (B : List Prim) × IsOnePair bytes n A B × IsVerdict n A B a
 
 pair_one : (bytes : List ℕ) (a b : Answer) → OnPair bytes a → OnPair bytes b → Agree a b
 pair_one bytes a b (n, A, B, v, d) (m, C, D, w, e) =
     let o = v.only m C D w.read in
-    decides_one n A B a b d (subst (λ (k : ℕ). Decides k A B b) o.0 (subst (λ (E : List Prim). Decides m E B b) o.1 (subst (λ (E : List Prim). Decides m C E b) o.2 e)))
+    verdict_one n A B a b d (subst (λ (k : ℕ). IsVerdict k A B b) o.0 (subst (λ (E : List Prim). IsVerdict m E B b) o.1 (subst (λ (E : List Prim). IsVerdict m C E b) o.2 e)))
 
 pair_none : (bytes : List ℕ) (a : Answer) → OnPair bytes a → IsNoPair bytes → ⊥
 pair_none bytes a (n, A, B, v, d) h = h n A B v.read
@@ -162,6 +123,7 @@ data Kind (words : List (List ℕ)) (bytes : List ℕ) : Answer → Type 0 where
 kind_of : (words : List (List ℕ)) (bytes : List ℕ) (s s' : ℕ) (a : Answer) → Answers words (Some bytes) s s' a → IsOfInput a → Kind words bytes a
 kind_of words bytes s s' Yes d i = read d.0 d.1.0 (pair d.1.1)
 kind_of words bytes s s' (No k) d i = read d.0 d.1.0 (pair d.1.1)
+kind_of words bytes s s' (Stuck c) d i = read d.0 d.1.0 (pair d.1.1)
 kind_of words bytes s s' (Passed c) d i = read d.0 d.1.0 (pair d.1.1)
 kind_of words bytes s s' NotYet d i = read d.0 d.1.0 (none d.1.1)
 kind_of words bytes s s' Words d i = wrong d

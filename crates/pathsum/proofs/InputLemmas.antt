@@ -1,10 +1,17 @@
 -- The digits of a basis input.
 use Rattle.std.proofs.Common.{◌≡◌, ℕ, zero, suc, ◌+◌, refl, ap, ap₂, sym, ◌∙◌, arith, Bool, true, false, List, [], ◌∷◌, ◌++◌, map, codes, append_assoc}
 use Rattle.ps_mono.specs.Sets.{stands}
-use Rattle.pathsum.specs.Inputs.{truths_from, input_of, bit_code}
+use Rattle.ps_ring.specs.Truths.{Truths}
+use Rattle.ps_ring.specs.Readings.{taken}
+use Rattle.ps_overlap.specs.Overlapping.{point}
+use Rattle.pathsum.specs.Inputs.{bit_code}
+
+-- for each of the n variables from v on, whether it stands in m
+abbrev pub truths_from : List ℕ → ℕ → ℕ → Truths
+truths_from m v n = taken v n (λ u. stands u m)
 
 pub truths_next : (m : List ℕ) (v n : ℕ) → truths_from m v (suc n) ≡ truths_from m v n ++ (stands (v + n) m ∷ [])
-unfolding truths_from
+unfolding taken
 truths_next m v zero = let e : v + zero ≡ v = omega arith in ap (λ u. stands u m ∷ []) (sym e)
 truths_next m v (suc n) =
     let e : suc v + n ≡ v + suc n = omega arith in
@@ -19,7 +26,7 @@ abbrev pub digits_to : List ℕ → ℕ → List ℕ
 digits_to m n = 110 ∷ 111 ∷ 32 ∷ map bit_code (truths_from m 0 n)
 
 pub digits_start : (m : List ℕ) → 110 ∷ 111 ∷ 32 ∷ [] ≡ digits_to m 0
-unfolding truths_from
+unfolding taken
 digits_start m = refl
 
 pub digits_next : (m line line' : List ℕ) (n d : ℕ) → line ≡ digits_to m n → d ≡ bit_code (stands n m) → line' ≡ line ++ (d ∷ []) → line' ≡ digits_to m (n + 1)

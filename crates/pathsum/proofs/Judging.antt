@@ -6,18 +6,23 @@ use Rattle.std.specs.Io.KnownBytes.{prepend_known, IsAtEnd}
 use Rattle.std.specs.Prelude.{IfSome}
 use Rattle.ps_prim.specs.declared.prims.Primitive.{Primitive as Prim}
 use Rattle.pathsum.specs.declared.answer.Answer.{Answer}
-use Rattle.pathsum.specs.declared.answer.Answer.TheVariants.{Yes, No, Passed, Words, NotYet, Read, TooLong, Memory}
+use Rattle.pathsum.specs.declared.answer.Answer.TheVariants.{Yes, No, Stuck, Passed, Words, NotYet, Read, TooLong, Memory}
 use Rattle.pathsum.specs.Answers.{status_of, line_of}
+use Rattle.ps_reach.specs.Findings.{Finding}
 use Rattle.pathsum.specs.Plain.{IsOnePair}
-use Rattle.pathsum.specs.Verdicts.{Decides}
+use Rattle.pathsum.specs.Verdicts.{IsVerdict, Says}
 use Rattle.pathsum.specs.Ended.{Judges, Deserves, Answers, IsSame, Ends, Writes}
 
-pub judges_pair : (bytes : List ℕ) (n : ℕ) (A B : List Prim) (answer : Answer) → IsOnePair bytes n A B → Decides n A B answer → Judges bytes answer
+pub judges_pair : (bytes : List ℕ) (n : ℕ) (A B : List Prim) (answer : Answer) → IsOnePair bytes n A B → IsVerdict n A B answer → Judges bytes answer
 judges_pair bytes n A B Yes r d = (n, A, B, r, d)
 judges_pair bytes n A B (No input) r d = (n, A, B, r, d)
-judges_pair bytes n A B (Passed count) r d = (n, A, B, r, d)
+judges_pair bytes n A B (Stuck sum) r d = (n, A, B, r, d)
+judges_pair bytes n A B (Passed limit) r d = (n, A, B, r, d)
 judges_pair bytes n A B Words r d = (n, A, B, r, d)
-judges_pair bytes n A B NotYet r d = absurd d
+judges_pair bytes n A B NotYet r d = absurd (never d.told)
+  where
+    never : {f : Finding} → Says n f NotYet → ⊥
+    never s = elim s [ ]
 judges_pair bytes n A B Read r d = (n, A, B, r, d)
 judges_pair bytes n A B TooLong r d = (n, A, B, r, d)
 judges_pair bytes n A B Memory r d = tt
@@ -30,15 +35,25 @@ told_bytes P told after items e a p = subst (λ (o : Option (List ℕ)). IfSome 
     by None a = tt
     by (Some xs) a = subst P (sym (ap (λ (r : List ℕ). items ++ r) a ∙ append-nil items)) p
 
+no_words : {n : ℕ} {f : Finding} → Says n f Words → ⊥
+no_words s = elim s [ ]
+
+no_read : {n : ℕ} {f : Finding} → Says n f Read → ⊥
+no_read s = elim s [ ]
+
+no_toolong : {n : ℕ} {f : Finding} → Says n f TooLong → ⊥
+no_toolong s = elim s [ ]
+
 -- the answer to the bytes is that of the call
 pub deserves_judged : (told after : Option (List ℕ)) (items : List ℕ) (old new : ℕ) (answer : Answer) → told ≡ prepend_known items after → IsAtEnd after → length items ≤ 16777216 → Judges items answer → Deserves told old new answer
 deserves_judged told after items old new Yes e a l j = told_bytes (λ bytes. (length bytes ≤ 16777216) × Judges bytes Yes) told after items e a (l, j)
 deserves_judged told after items old new (No input) e a l j = told_bytes (λ bytes. (length bytes ≤ 16777216) × Judges bytes (No input)) told after items e a (l, j)
-deserves_judged told after items old new (Passed count) e a l j = told_bytes (λ bytes. (length bytes ≤ 16777216) × Judges bytes (Passed count)) told after items e a (l, j)
+deserves_judged told after items old new (Stuck sum) e a l j = told_bytes (λ bytes. (length bytes ≤ 16777216) × Judges bytes (Stuck sum)) told after items e a (l, j)
+deserves_judged told after items old new (Passed limit) e a l j = told_bytes (λ bytes. (length bytes ≤ 16777216) × Judges bytes (Passed limit)) told after items e a (l, j)
 deserves_judged told after items old new NotYet e a l j = told_bytes (λ bytes. (length bytes ≤ 16777216) × Judges bytes NotYet) told after items e a (l, j)
-deserves_judged told after items old new Words e a l (n, A, B, r, d) = absurd d
-deserves_judged told after items old new Read e a l (n, A, B, r, d) = absurd d
-deserves_judged told after items old new TooLong e a l (n, A, B, r, d) = absurd d
+deserves_judged told after items old new Words e a l (n, A, B, r, d) = absurd (no_words d.told)
+deserves_judged told after items old new Read e a l (n, A, B, r, d) = absurd (no_read d.told)
+deserves_judged told after items old new TooLong e a l (n, A, B, r, d) = absurd (no_toolong d.told)
 deserves_judged told after items old new Memory e a l j = tt
 
 -- what `print` did ends the call
@@ -54,7 +69,8 @@ same_ends words told old new s s' f f' status w e = record { answer = e.answer; 
     answers : (answer : Answer) → Deserves told s s' answer → Answers words told s s' answer
     answers Yes d = (w, d)
     answers (No input) d = (w, d)
-    answers (Passed count) d = (w, d)
+    answers (Stuck sum) d = (w, d)
+    answers (Passed limit) d = (w, d)
     answers NotYet d = (w, d)
     answers Words d = absurd d
     answers Read d = (w, d)
@@ -67,8 +83,8 @@ pub words_end : (words : List (List ℕ)) (told old new : Option (List ℕ)) (s 
 words_end words told old new s s' f f' status w e = printed (Answers words told s s') old new f f' status Words w tt e
 
 -- the lists behind two slices
-pub decides_lists : (n : ℕ) (A A' B B' : List Prim) (answer : Answer) → A ≡ A' → B ≡ B' → Decides n A B answer → Decides n A' B' answer
-decides_lists n A A' B B' answer a b d = subst (λ (C : List Prim). Decides n A' C answer) b (subst (λ (C : List Prim). Decides n C B answer) a d)
+pub verdict_lists : (n : ℕ) (A A' B B' : List Prim) (answer : Answer) → A ≡ A' → B ≡ B' → IsVerdict n A B answer → IsVerdict n A' B' answer
+verdict_lists n A A' B B' answer a b d = subst (λ (C : List Prim). IsVerdict n A' C answer) b (subst (λ (C : List Prim). IsVerdict n C B answer) a d)
 
 one_word : {X : Type 0} (f : X → List ℕ) (ws : List X) (w : X) → length ws ≡ 1 → w ≡ get_or ws 0 w → map f ws ≡ f w ∷ []
 one_word f [] w l e = absurd (omega arith)

@@ -1,10 +1,8 @@
-pub mod InputLemmas
-pub mod Composing
-pub mod Comparing
-pub mod Counting
-pub mod Judging
 pub mod Answering
-mod PlainNumbers
-mod PlainAngles
-mod PlainLines
-mod PlainPairs
+pub mod InputLemmas
+pub mod Judging
+pub mod PlainAngles
+pub mod PlainLines
+pub mod PlainNumbers
+pub mod PlainPairs
+pub mod Verdicts

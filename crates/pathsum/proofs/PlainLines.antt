@@ -11,8 +11,8 @@ use Rattle.pathsum.specs.Readings.{Exactly, Nowhere, Before, SpellsBelow, Spells
 assoc_flip : (p a e b f r : List ℕ) → p ++ a ++ e ++ b ++ f ++ r ≡ p ++ ((a ++ e) ++ ((b ++ f) ++ r))
 assoc_flip p a e b f r = simp append_assoc
 
-assoc_turn : (p a e b f q g r : List ℕ) → p ++ a ++ e ++ b ++ f ++ q ++ g ++ r ≡ p ++ ((a ++ e) ++ ((b ++ f) ++ ((q ++ g) ++ r)))
-assoc_turn p a e b f q g r = simp append_assoc
+assoc_three : (p a e b f c h q g r : List ℕ) → p ++ a ++ e ++ b ++ f ++ c ++ h ++ q ++ g ++ r ≡ p ++ ((a ++ e) ++ ((b ++ f) ++ ((c ++ h) ++ ((q ++ g) ++ r))))
+assoc_three p a e b f c h q g r = simp append_assoc
 
 -- the parts of the line of a controlled not, each up to its end
 record FlipParts (n : ℕ) (s back : List ℕ) (c t : ℕ) : Type 0 where
@@ -96,94 +96,119 @@ flip_read n s t u rest c d e x y apart = record {
 }
 
 -- the parts of the line of a U
-record TurnParts (n : ℕ) (s back : List ℕ) (phi lambda q : ℕ) : Type 0 where
+record TurnParts (n : ℕ) (s back : List ℕ) (theta phi lambda q : ℕ) : Type 0 where
   pub first : List ℕ
   pub second : List ℕ
   pub third : List ℕ
-  pub phi_angle : Before SpellsAngle (codes ",") first phi
-  pub lambda_angle : Before SpellsAngle (codes ") q[") second lambda
-  pub qubit : Before (SpellsBelow n) (codes "];\n") third q
-  pub parted : s ≡ codes "U(0," ++ (first ++ (second ++ (third ++ back)))
+  pub last : List ℕ
+  pub theta_angle : Before SpellsAngle (codes ",") first theta
+  pub phi_angle : Before SpellsAngle (codes ",") second phi
+  pub lambda_angle : Before SpellsAngle (codes ") q[") third lambda
+  pub qubit : Before (SpellsBelow n) (codes "];\n") last q
+  pub parted : s ≡ codes "U(" ++ (first ++ (second ++ (third ++ (last ++ back))))
 
-turn_parts : (n : ℕ) (s front back : List ℕ) (phi lambda q : ℕ) → SpellsTurn n front phi lambda q → s ≡ front ++ back → TurnParts n s back phi lambda q
-turn_parts n s front back phi lambda q f e = record {
-  first = f.second ++ codes ",";
-  second = f.third ++ codes ") q[";
-  third = f.qubit ++ codes "];\n";
+turn_parts : (n : ℕ) (s front back : List ℕ) (theta phi lambda q : ℕ) → SpellsTurn n front theta phi lambda q → s ≡ front ++ back → TurnParts n s back theta phi lambda q
+turn_parts n s front back theta phi lambda q f e = record {
+  first = f.first ++ codes ",";
+  second = f.second ++ codes ",";
+  third = f.third ++ codes ") q[";
+  last = f.qubit ++ codes "];\n";
+  theta_angle = record { front = f.first; spells = f.first_angle; ended = refl };
   phi_angle = record { front = f.second; spells = f.second_angle; ended = refl };
   lambda_angle = record { front = f.third; spells = f.third_angle; ended = refl };
   qubit = record { front = f.qubit; spells = record { number = f.number; below = f.within }; ended = refl };
-  parted = e ∙ ap (λ l. l ++ back) f.spelled ∙ assoc_turn (codes "U(0,") f.second (codes ",") f.third (codes ") q[") f.qubit (codes "];\n") back;
+  parted = e ∙ ap (λ l. l ++ back) f.spelled ∙ assoc_three (codes "U(") f.first (codes ",") f.second (codes ",") f.third (codes ") q[") f.qubit (codes "];\n") back;
 }
 
 record UParts (n : ℕ) (s back : List ℕ) (w : Prim) : Type 0 where
+  pub theta : ℕ
   pub phi : ℕ
   pub lambda : ℕ
   pub q : ℕ
-  pub is : w ≡ U 0 phi lambda q
-  pub parts : TurnParts n s back phi lambda q
+  pub is : w ≡ U theta phi lambda q
+  pub parts : TurnParts n s back theta phi lambda q
 
 u_parts : (n : ℕ) (s back front : List ℕ) (w : Prim) → SpellsU n front w → s ≡ front ++ back → UParts n s back w
 u_parts n s back front (Cx c t) f e = absurd f
-u_parts n s back front (U theta phi lambda q) f e = record { phi = phi; lambda = lambda; q = q; is = ap (λ k. U k phi lambda q) f.0; parts = turn_parts n s front back phi lambda q f.1 e }
+u_parts n s back front (U theta phi lambda q) f e = record { theta = theta; phi = phi; lambda = lambda; q = q; is = refl; parts = turn_parts n s front back theta phi lambda q f e }
 
-pub turn_other : (n : ℕ) (s : List ℕ) → ((r : List ℕ) → s ≢ codes "U(0," ++ r) → Nowhere (SpellsU n) s
-turn_other n s h w front back f e = let g = u_parts n s back front w f e in h (g.parts.first ++ (g.parts.second ++ (g.parts.third ++ back))) g.parts.parted
+pub turn_other : (n : ℕ) (s : List ℕ) → ((r : List ℕ) → s ≢ codes "U(" ++ r) → Nowhere (SpellsU n) s
+turn_other n s h w front back f e = let g = u_parts n s back front w f e in h (g.parts.first ++ (g.parts.second ++ (g.parts.third ++ (g.parts.last ++ back)))) g.parts.parted
 
-turn_front : (n : ℕ) (s t back : List ℕ) (w : Prim) → s ≡ codes "U(0," ++ t → (g : UParts n s back w) → t ≡ g.parts.first ++ (g.parts.second ++ (g.parts.third ++ back))
-turn_front n s t back w e g = append_cancel_left (codes "U(0,") t (g.parts.first ++ (g.parts.second ++ (g.parts.third ++ back))) (sym e ∙ g.parts.parted)
+turn_front : (n : ℕ) (s t back : List ℕ) (w : Prim) → s ≡ codes "U(" ++ t → (g : UParts n s back w) → t ≡ g.parts.first ++ (g.parts.second ++ (g.parts.third ++ (g.parts.last ++ back)))
+turn_front n s t back w e g = append_cancel_left (codes "U(") t (g.parts.first ++ (g.parts.second ++ (g.parts.third ++ (g.parts.last ++ back)))) (sym e ∙ g.parts.parted)
 
-pub turn_no_phi : (n : ℕ) (s t : List ℕ) → s ≡ codes "U(0," ++ t → Nowhere (Before SpellsAngle (codes ",")) t → Nowhere (SpellsU n) s
-turn_no_phi n s t e h w front back f p =
+pub turn_no_theta : (n : ℕ) (s t : List ℕ) → s ≡ codes "U(" ++ t → Nowhere (Before SpellsAngle (codes ",")) t → Nowhere (SpellsU n) s
+turn_no_theta n s t e h w front back f p =
     let g = u_parts n s back front w f p in
-    h g.phi g.parts.first (g.parts.second ++ (g.parts.third ++ back)) g.parts.phi_angle (turn_front n s t back w e g)
+    h g.theta g.parts.first (g.parts.second ++ (g.parts.third ++ (g.parts.last ++ back))) g.parts.theta_angle (turn_front n s t back w e g)
 
-turn_phi : (n : ℕ) (s t rest back : List ℕ) (v : ℕ) (w : Prim) → s ≡ codes "U(0," ++ t → Exactly (Before SpellsAngle (codes ",")) t v rest → (g : UParts n s back w) → Same v g.phi rest (g.parts.second ++ (g.parts.third ++ back))
-turn_phi n s t rest back v w e x g =
-    let o = x.only g.phi g.parts.first (g.parts.second ++ (g.parts.third ++ back)) g.parts.phi_angle (turn_front n s t back w e g) in
+turn_theta : (n : ℕ) (s t rest back : List ℕ) (v : ℕ) (w : Prim) → s ≡ codes "U(" ++ t → Exactly (Before SpellsAngle (codes ",")) t v rest → (g : UParts n s back w) → Same v g.theta rest (g.parts.second ++ (g.parts.third ++ (g.parts.last ++ back)))
+turn_theta n s t rest back v w e x g =
+    let o = x.only g.theta g.parts.first (g.parts.second ++ (g.parts.third ++ (g.parts.last ++ back))) g.parts.theta_angle (turn_front n s t back w e g) in
     record { value = o.0; rest = o.1 }
 
-pub turn_no_lambda : (n : ℕ) (s t u : List ℕ) (v : ℕ) → s ≡ codes "U(0," ++ t → Exactly (Before SpellsAngle (codes ",")) t v u → Nowhere (Before SpellsAngle (codes ") q[")) u → Nowhere (SpellsU n) s
-turn_no_lambda n s t u v e x h w front back f p =
+pub turn_no_phi : (n : ℕ) (s t o : List ℕ) (i : ℕ) → s ≡ codes "U(" ++ t → Exactly (Before SpellsAngle (codes ",")) t i o → Nowhere (Before SpellsAngle (codes ",")) o → Nowhere (SpellsU n) s
+turn_no_phi n s t o i e x h w front back f p =
     let g = u_parts n s back front w f p in
-    let o = turn_phi n s t u back v w e x g in
-    h g.lambda g.parts.second (g.parts.third ++ back) g.parts.lambda_angle (sym o.rest)
+    let a = turn_theta n s t o back i w e x g in
+    h g.phi g.parts.second (g.parts.third ++ (g.parts.last ++ back)) g.parts.phi_angle (sym a.rest)
 
-turn_lambda : (n : ℕ) (s t u rest back : List ℕ) (v k : ℕ) (w : Prim) → s ≡ codes "U(0," ++ t → Exactly (Before SpellsAngle (codes ",")) t v u → Exactly (Before SpellsAngle (codes ") q[")) u k rest → (g : UParts n s back w) → Same k g.lambda rest (g.parts.third ++ back)
-turn_lambda n s t u rest back v k w e x y g =
-    let o = turn_phi n s t u back v w e x g in
-    let q = y.only g.lambda g.parts.second (g.parts.third ++ back) g.parts.lambda_angle (sym o.rest) in
-    record { value = q.0; rest = q.1 }
+turn_phi : (n : ℕ) (s t o rest back : List ℕ) (i v : ℕ) (w : Prim) → s ≡ codes "U(" ++ t → Exactly (Before SpellsAngle (codes ",")) t i o → Exactly (Before SpellsAngle (codes ",")) o v rest → (g : UParts n s back w)
+    → Same v g.phi rest (g.parts.third ++ (g.parts.last ++ back))
+turn_phi n s t o rest back i v w e x y g =
+    let a = turn_theta n s t o back i w e x g in
+    let b = y.only g.phi g.parts.second (g.parts.third ++ (g.parts.last ++ back)) g.parts.phi_angle (sym a.rest) in
+    record { value = b.0; rest = b.1 }
 
-pub turn_no_qubit : (n : ℕ) (s t u r : List ℕ) (v k : ℕ) → s ≡ codes "U(0," ++ t → Exactly (Before SpellsAngle (codes ",")) t v u → Exactly (Before SpellsAngle (codes ") q[")) u k r → Nowhere (Before (SpellsBelow n) (codes "];\n")) r → Nowhere (SpellsU n) s
-turn_no_qubit n s t u r v k e x y h w front back f p =
+pub turn_no_lambda : (n : ℕ) (s t o u : List ℕ) (i v : ℕ) → s ≡ codes "U(" ++ t → Exactly (Before SpellsAngle (codes ",")) t i o → Exactly (Before SpellsAngle (codes ",")) o v u → Nowhere (Before SpellsAngle (codes ") q[")) u → Nowhere (SpellsU n) s
+turn_no_lambda n s t o u i v e x y h w front back f p =
     let g = u_parts n s back front w f p in
-    let o = turn_lambda n s t u r back v k w e x y g in
-    h g.q g.parts.third back g.parts.qubit (sym o.rest)
+    let b = turn_phi n s t o u back i v w e x y g in
+    h g.lambda g.parts.third (g.parts.last ++ back) g.parts.lambda_angle (sym b.rest)
 
-pub turn_read : (n : ℕ) (s t u r rest : List ℕ) (v k j : ℕ) → s ≡ codes "U(0," ++ t → Exactly (Before SpellsAngle (codes ",")) t v u → Exactly (Before SpellsAngle (codes ") q[")) u k r → Exactly (Before (SpellsBelow n) (codes "];\n")) r j rest → Exactly (SpellsU n) s (U 0 v k j) rest
-turn_read n s t u r rest v k j e x y z = record {
-  text = codes "U(0," ++ x.spells.front ++ codes "," ++ y.spells.front ++ codes ") q[" ++ z.spells.front ++ codes "];\n";
-  spells = (
-    refl,
-    record {
-      second = x.spells.front;
-      third = y.spells.front;
-      qubit = z.spells.front;
-      second_angle = x.spells.spells;
-      third_angle = y.spells.spells;
-      number = z.spells.spells.number;
-      within = z.spells.spells.below;
-      spelled = refl;
-    },
-  );
-  parted = e ∙ ap (λ l. codes "U(0," ++ l) (x.parted ∙ ap (λ l. l ++ u) x.spells.ended ∙ ap (λ l. (x.spells.front ++ codes ",") ++ l) (y.parted ∙ ap (λ l. l ++ r) y.spells.ended ∙ ap (λ l. (y.spells.front ++ codes ") q[") ++ l) (z.parted ∙ ap (λ l. l ++ rest) z.spells.ended))) ∙ sym (assoc_turn (codes "U(0,") x.spells.front (codes ",") y.spells.front (codes ") q[") z.spells.front (codes "];\n") rest);
+turn_lambda : (n : ℕ) (s t o u rest back : List ℕ) (i v k : ℕ) (w : Prim) → s ≡ codes "U(" ++ t → Exactly (Before SpellsAngle (codes ",")) t i o → Exactly (Before SpellsAngle (codes ",")) o v u → Exactly (Before SpellsAngle (codes ") q[")) u k rest → (g : UParts n s back w)
+    → Same k g.lambda rest (g.parts.last ++ back)
+turn_lambda n s t o u rest back i v k w e x y z g =
+    let b = turn_phi n s t o u back i v w e x y g in
+    let c = z.only g.lambda g.parts.third (g.parts.last ++ back) g.parts.lambda_angle (sym b.rest) in
+    record { value = c.0; rest = c.1 }
+
+pub turn_no_qubit : (n : ℕ) (s t o u r : List ℕ) (i v k : ℕ) → s ≡ codes "U(" ++ t → Exactly (Before SpellsAngle (codes ",")) t i o → Exactly (Before SpellsAngle (codes ",")) o v u → Exactly (Before SpellsAngle (codes ") q[")) u k r → Nowhere (Before (SpellsBelow n) (codes "];\n")) r → Nowhere (SpellsU n) s
+turn_no_qubit n s t o u r i v k e x y z h w front back f p =
+    let g = u_parts n s back front w f p in
+    let c = turn_lambda n s t o u r back i v k w e x y z g in
+    h g.q g.parts.last back g.parts.qubit (sym c.rest)
+
+pub turn_read : (n : ℕ) (s t o u r rest : List ℕ) (i v k j : ℕ) → s ≡ codes "U(" ++ t → Exactly (Before SpellsAngle (codes ",")) t i o → Exactly (Before SpellsAngle (codes ",")) o v u → Exactly (Before SpellsAngle (codes ") q[")) u k r → Exactly (Before (SpellsBelow n) (codes "];\n")) r j rest
+    → Exactly (SpellsU n) s (U i v k j) rest
+turn_read n s t o u r rest i v k j e x y z q = record {
+  text = codes "U(" ++ x.spells.front ++ codes "," ++ y.spells.front ++ codes "," ++ z.spells.front ++ codes ") q[" ++ q.spells.front ++ codes "];\n";
+  spells = record {
+    first = x.spells.front;
+    second = y.spells.front;
+    third = z.spells.front;
+    qubit = q.spells.front;
+    first_angle = x.spells.spells;
+    second_angle = y.spells.spells;
+    third_angle = z.spells.spells;
+    number = q.spells.spells.number;
+    within = q.spells.spells.below;
+    spelled = refl;
+  };
+  parted = e
+      ∙ ap (λ l. codes "U(" ++ l) (x.parted ∙ ap (λ l. l ++ o) x.spells.ended
+      ∙ ap (λ l. (x.spells.front ++ codes ",") ++ l) (y.parted ∙ ap (λ l. l ++ u) y.spells.ended
+      ∙ ap (λ l. (y.spells.front ++ codes ",") ++ l) (z.parted ∙ ap (λ l. l ++ r) z.spells.ended
+      ∙ ap (λ l. (z.spells.front ++ codes ") q[") ++ l) (q.parted ∙ ap (λ l. l ++ rest) q.spells.ended))))
+      ∙ sym (assoc_three (codes "U(") x.spells.front (codes ",") y.spells.front (codes ",") z.spells.front (codes ") q[") q.spells.front (codes "];\n") rest);
   only = λ w front back f p. (
       let g = u_parts n s back front w f p in
-      let a = turn_phi n s t u back v w e x g in
-      let b = turn_lambda n s t u r back v k w e x y g in
-      let c = z.only g.q g.parts.third back g.parts.qubit (sym b.rest) in
-      (g.is ∙ ap (λ i. U 0 i g.lambda g.q) a.value ∙ ap (λ i. U 0 v i g.q) b.value ∙ ap (λ i. U 0 v k i) c.0, c.1));
+      let a = turn_theta n s t o back i w e x g in
+      let b = turn_phi n s t o u back i v w e x y g in
+      let c = turn_lambda n s t o u r back i v k w e x y z g in
+      let d = q.only g.q g.parts.last back g.parts.qubit (sym c.rest) in
+      (g.is ∙ ap (λ m. U m g.phi g.lambda g.q) a.value ∙ ap (λ m. U i m g.lambda g.q) b.value ∙ ap (λ m. U i v m g.q) c.value ∙ ap (λ m. U i v k m) d.0, d.1));
 }
 
 -- a line is one of the two, and begins with C or U
@@ -306,7 +331,7 @@ part_full n bytes rest gs p few = record {
   only = λ hs front back l f k e. (let o = p.next hs front back f k e in full n rest back gs hs (omega arith) o.more o.text o.prims o.spells o.parted);
 }
 
-pub turn_as : (n : ℕ) (s rest : List ℕ) (theta phi lambda v k q : ℕ) → theta ≡ 0 → phi ≡ v → lambda ≡ k → Exactly (SpellsU n) s (U 0 v k q) rest → Exactly (SpellsU n) s (U theta phi lambda q) rest
-turn_as n s rest theta phi lambda v k q a b d x =
-    let e : U 0 v k q ≡ U theta phi lambda q = ap (λ i. U i v k q) (sym a) ∙ ap (λ i. U theta i k q) (sym b) ∙ ap (λ i. U theta phi i q) (sym d) in
+pub turn_as : (n : ℕ) (s rest : List ℕ) (theta phi lambda i v k q : ℕ) → theta ≡ i → phi ≡ v → lambda ≡ k → Exactly (SpellsU n) s (U i v k q) rest → Exactly (SpellsU n) s (U theta phi lambda q) rest
+turn_as n s rest theta phi lambda i v k q a b d x =
+    let e : U i v k q ≡ U theta phi lambda q = ap (λ m. U m v k q) (sym a) ∙ ap (λ m. U theta m k q) (sym b) ∙ ap (λ m. U theta phi m q) (sym d) in
     subst (λ g. Exactly (SpellsU n) s g rest) e x

@@ -7,7 +7,7 @@ use Rattle.std.proofs.lemmas.List.{append_cancel_left}
 use Rattle.ps_prim.specs.declared.prims.Primitive.{Primitive as Prim}
 use Rattle.ps_prim.specs.declared.prims.Primitive.TheVariants.{U, Cx}
 use Rattle.ps_prim.specs.Maps.{AllWithin}
-use Rattle.pathsum.specs.Plain.{SpellsLines, SpellsText, SpellsPair, IsSeparator, plain, returned, AllPlain, IsOnePair, IsNoPair, IsFit}
+use Rattle.pathsum.specs.Plain.{SpellsLines, SpellsText, SpellsPair, IsSeparator, plain, returned, IsOnePair, IsNoPair, IsFit}
 use Rattle.pathsum.specs.Readings.{Exactly, Nowhere, Before, SpellsBelow, ReadsLines, SpellsHead, SpellsMiddle}
 use Rattle.pathsum.proofs.PlainLines.{no_line_end, no_line_equals}
 
@@ -222,12 +222,7 @@ pair_read bytes t rest u v n k gs hs x l y e z over = record {
 lines_within : (n : ℕ) (text : List ℕ) (gs : List Prim) → SpellsLines n text gs → AllWithin n gs
 lines_within n text [] h = tt
 lines_within n text (Cx c t ∷ gs) h = ((h.3.first_within, h.3.second_within, h.3.apart), lines_within n h.1 gs h.4)
-lines_within n text (U theta phi lambda q ∷ gs) h = (h.3.1.within, lines_within n h.1 gs h.4)
-
-lines_plain : (n : ℕ) (text : List ℕ) (gs : List Prim) → SpellsLines n text gs → AllPlain gs
-lines_plain n text [] h = tt
-lines_plain n text (Cx c t ∷ gs) h = lines_plain n h.1 gs h.4
-lines_plain n text (U theta phi lambda q ∷ gs) h = (h.3.0, lines_plain n h.1 gs h.4)
+lines_within n text (U theta phi lambda q ∷ gs) h = (h.3.within, lines_within n h.1 gs h.4)
 
 pub pair_fits : (bytes : List ℕ) (n : ℕ) (A B : List Prim) → SpellsPair bytes n A B → IsFit n A B
 pair_fits bytes n A B p = record {
@@ -237,8 +232,6 @@ pair_fits bytes n A B p = record {
   second_few = p.second_text.few;
   first_within = lines_within n p.first_text.lines A p.first_text.each;
   second_within = lines_within n p.second_text.lines B p.second_text.each;
-  first_plain = lines_plain n p.first_text.lines A p.first_text.each;
-  second_plain = lines_plain n p.second_text.lines B p.second_text.each;
 }
 
 pub empty_is : (v : List ℕ) (b : Bool) → b ≡ (length v == 0) → b ≡ true → v ≡ []

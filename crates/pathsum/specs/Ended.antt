@@ -5,16 +5,16 @@ use Rattle.ps_io.specs.Counts.{Rose}
 use Rattle.ps_io.specs.Streams.{AppendsPrefix}
 use Rattle.ps_prim.specs.declared.prims.Primitive.{Primitive as Prim}
 use Rattle.pathsum.specs.declared.answer.Answer.{Answer}
-use Rattle.pathsum.specs.declared.answer.Answer.TheVariants.{Yes, No, Passed, Words, NotYet, Read, TooLong, Memory}
+use Rattle.pathsum.specs.declared.answer.Answer.TheVariants.{Yes, No, Stuck, Passed, Words, NotYet, Read, TooLong, Memory}
 use Rattle.pathsum.specs.Answers.{status_of, line_of}
 use Rattle.pathsum.specs.Plain.{IsOnePair, IsNoPair}
-use Rattle.pathsum.specs.Verdicts.{Decides}
+use Rattle.pathsum.specs.Verdicts.{IsVerdict}
 
 -- what an answer claims of an input that was read to its end; want of memory claims nothing
 abbrev pub Judges : List ℕ → Answer → Type 0
 Judges bytes NotYet = IsNoPair bytes
 Judges bytes Memory = Unit {0}
-Judges bytes answer = (n : ℕ) × (A : List Prim) × (B : List Prim) × IsOnePair bytes n A B × Decides n A B answer
+Judges bytes answer = (n : ℕ) × (A : List Prim) × (B : List Prim) × IsOnePair bytes n A B × IsVerdict n A B answer
 
 -- what an answer of `same` claims of the bytes that the source told, and of its counts of faults
 abbrev pub Deserves : Option (List ℕ) → ℕ → ℕ → Answer → Type 0

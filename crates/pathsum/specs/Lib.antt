@@ -1,9 +1,6 @@
 pub mod Answers
-pub mod Composed
-pub mod Compositions
 pub mod Ended
 pub mod Inputs
-pub mod Limits
 pub mod Plain
 pub mod Readings
 pub mod Verdicts

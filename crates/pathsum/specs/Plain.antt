@@ -62,21 +62,23 @@ pub record SpellsFlip (n : ℕ) (text : List ℕ) (c t : ℕ) : Type 0 where
   pub apart : c ≢ t
   pub spelled : text ≡ codes "CX q[" ++ control ++ codes "],q[" ++ target ++ codes "];\n"
 
--- the line of a U without its first angle
-pub record SpellsTurn (n : ℕ) (text : List ℕ) (phi lambda q : ℕ) : Type 0 where
+-- the line of a U
+pub record SpellsTurn (n : ℕ) (text : List ℕ) (theta phi lambda q : ℕ) : Type 0 where
+  pub first : List ℕ
   pub second : List ℕ
   pub third : List ℕ
   pub qubit : List ℕ
+  pub first_angle : SpellsAngle first theta
   pub second_angle : SpellsAngle second phi
   pub third_angle : SpellsAngle third lambda
   pub number : SpellsNumber qubit q
   pub within : q < n
-  pub spelled : text ≡ codes "U(0," ++ second ++ codes "," ++ third ++ codes ") q[" ++ qubit ++ codes "];\n"
+  pub spelled : text ≡ codes "U(" ++ first ++ codes "," ++ second ++ codes "," ++ third ++ codes ") q[" ++ qubit ++ codes "];\n"
 
 -- a line, and the prim that it stands for
 abbrev pub SpellsLine : ℕ → List ℕ → Prim → Type 0
 SpellsLine n text (Cx c t) = SpellsFlip n text c t
-SpellsLine n text (U theta phi lambda q) = (theta ≡ 0) × SpellsTurn n text phi lambda q
+SpellsLine n text (U theta phi lambda q) = SpellsTurn n text theta phi lambda q
 
 -- lines one after the other
 abbrev pub SpellsLines : ℕ → List ℕ → List Prim → Type 0
@@ -109,12 +111,6 @@ pub record SpellsPair (bytes : List ℕ) (n : ℕ) (A B : List Prim) : Type 0 wh
   pub second_text : SpellsText second n B
   pub spelled : bytes ≡ first ++ separator ++ second
 
--- the first angle of each U is 0
-abbrev pub AllPlain : List Prim → Type 0
-AllPlain [] = Unit {0}
-AllPlain (Cx c t ∷ gs) = AllPlain gs
-AllPlain (U theta phi lambda q ∷ gs) = (theta ≡ 0) × AllPlain gs
-
 -- the bytes are a plain pair, and of no other size and no other prims
 pub record IsOnePair (bytes : List ℕ) (n : ℕ) (A B : List Prim) : Type 0 where
   pub read : SpellsPair bytes n A B
@@ -132,5 +128,3 @@ pub record IsFit (n : ℕ) (A B : List Prim) : Type 0 where
   pub second_few : length B ≤ 65536
   pub first_within : AllWithin n A
   pub second_within : AllWithin n B
-  pub first_plain : AllPlain A
-  pub second_plain : AllPlain B

@@ -81,7 +81,7 @@ SpellsCx n text (U theta phi lambda q) = ⊥
 
 abbrev pub SpellsU : ℕ → List ℕ → Prim → Type 0
 SpellsU n text (Cx c t) = ⊥
-SpellsU n text (U theta phi lambda q) = (theta ≡ 0) × SpellsTurn n text phi lambda q
+SpellsU n text (U theta phi lambda q) = SpellsTurn n text theta phi lambda q
 
 -- no line begins the bytes
 abbrev pub NoLine : ℕ → List ℕ → Type 0

@@ -5,7 +5,6 @@ ghost use Rattle.std.specs.Prelude.{◌↔◌, IsTrue, map, string_bytes};
 ghost use Rattle.pathsum.specs.Ended.{Answers, Ends, IsOneAnswer, IsSame};
 
 mod answer;
-mod compose;
 mod ended;
 mod input;
 mod plain;

@@ -196,13 +196,14 @@ fn flip(text: &[u8], qubits: u32) -> Option<FoundPrim<'_>>
 fn turn(text: &[u8], qubits: u32) -> Option<FoundPrim<'_>>
     ensures { MatchOption result (Nowhere (SpellsU qubits) text.now) (λ l. Exactly (SpellsU qubits) text.now l.prim l.rest.now) }
 {
-    let behind = after(text, b"U(0,")?;
-    let phi = angle(behind, b",")?;
+    let behind = after(text, b"U(")?;
+    let theta = angle(behind, b",")?;
+    let phi = angle(theta.rest, b",")?;
     let lambda = angle(phi.rest, b") q[")?;
     let qubit = number(lambda.rest, qubits, b"];\n")?;
     Some(FoundPrim {
         prim: Prim::U {
-            theta: Angle::of(0),
+            theta: Angle::of(theta.value),
             phi: Angle::of(phi.value),
             lambda: Angle::of(lambda.value),
             q: qubit.value,
@@ -327,6 +328,7 @@ mod tests {
             "U(0,pi,-pi) q[0];\n",
             "U(0,3*pi/4,-999999999*pi/1073741824) q[1];\nCX q[1],q[0];\n",
             "U(0,pi/1,1*pi) q[1];\n",
+            "U(-pi/1073741824,0,0) q[1];\n",
         ];
         assert!(rt; lines_are(rt.alloc(), &read, true)?);
         let refused = [
@@ -340,7 +342,9 @@ mod tests {
             "CX q[00],q[1];\n",
             "CX q[],q[1];\n",
             "CX q[4294967296],q[1];\n",
-            "U(pi,0,0) q[0];\n",
+            "U(pi,0) q[0];\n",
+            "U(00,0,0) q[0];\n",
+            "U(pi/3,0,0) q[0];\n",
             "U(0,00,0) q[0];\n",
             "U(0,-0,0) q[0];\n",
             "U(0,0*pi,0) q[0];\n",
@@ -395,7 +399,7 @@ mod tests {
     #[test]
     fn units(rt: HostRuntime) -> Result<(), Fail> {
         let alloc = rt.alloc();
-        let line = "U(0,-3*pi/4,5*pi) q[1];\nCX q[2],q[0];\n";
+        let line = "U(pi/2,-3*pi/4,5*pi) q[1];\nCX q[2],q[0];\n";
         let read = read_pair(alloc, pair(alloc, line, "====\n", "")?.as_bytes())?.ok_or("no pair")?;
         assert_eq!(rt; read.qubits, 3);
         assert_eq!(rt; read.first.len(), 2);
@@ -407,7 +411,7 @@ mod tests {
                 lambda,
                 q,
             } => {
-                assert_eq!(rt; theta.units(), 0);
+                assert_eq!(rt; theta.units(), 536_870_912);
                 assert_eq!(rt; phi.units(), 3_489_660_928);
                 assert_eq!(rt; lambda.units(), 1_073_741_824);
                 assert_eq!(rt; q, 1);

@@ -5,7 +5,7 @@ use super::answer::Answer;
 use super::ended::Ended;
 use super::plain::read_pair;
 use super::print::print;
-use super::verdict::compare;
+use super::verdict::decide;
 use ps_io::{ReadEnd, Sink, Source, read_all};
 use std::alloc::{AllocError, Global};
 
@@ -29,7 +29,7 @@ fn judge(alloc: Global, bytes: &[u8]) -> Answer
     ensures { Judges bytes.now result }
 {
     match read_pair(alloc, bytes) {
-        Ok(Some(pair)) => match compare(alloc, pair.qubits, &pair.first, &pair.second) {
+        Ok(Some(pair)) => match decide(alloc, pair.qubits, &pair.first, &pair.second) {
             Ok(answer) => answer,
             Err(AllocError) => Answer::Memory,
         },

@@ -86,6 +86,41 @@ fn pairs_are_answered(rt: HostRuntime) -> Result<(), Fail> {
     Ok(())
 }
 
+// Two texts on one qubit with these lines.
+fn on_one(alloc: Global, first: &str, second: &str) -> Result<String, AllocError> {
+    format!(in alloc; "OPENQASM 2.0;\nqreg q[1];\n{first}====\nOPENQASM 2.0;\nqreg q[1];\n{second}")
+}
+
+const H: &str = "U(pi/2,0,pi) q[0];\n";
+
+const X: &str = "U(pi,0,pi) q[0];\n";
+
+#[test]
+fn rotations_are_answered(rt: HostRuntime) -> Result<(), Fail> {
+    let alloc = rt.alloc();
+    let twice = format!(in alloc; "{H}{H}")?;
+    let between = format!(in alloc; "{H}U(0,0,pi) q[0];\n{H}")?;
+    let eighth = format!(in alloc; "{H}U(0,0,pi/4) q[0];\n{H}")?;
+    let rows: [(&str, &str, u8, &[u8]); 6] = [
+        (twice.as_str(), "", 0, b"yes\n"),
+        (X, between.as_str(), 0, b"yes\n"),
+        (X, "", 1, b"no 0\n"),
+        (H, "", 1, b"no 0\n"),
+        ("U(2*pi,0,0) q[0];\n", "", 1, b"no 0\n"),
+        (
+            eighth.as_str(),
+            "",
+            2,
+            b"unknown stuck k=2 m=1 P=7/8*y0 f=-\n",
+        ),
+    ];
+    for (first, second, status, printed) in rows {
+        let input = on_one(alloc, first, second)?;
+        assert!(rt; ends_so(alloc, &same(input.as_bytes(), status, printed))?);
+    }
+    Ok(())
+}
+
 #[test]
 fn too_many_terms_are_told(rt: HostRuntime) -> Result<(), Fail> {
     let alloc = rt.alloc();

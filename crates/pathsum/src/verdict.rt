@@ -1,80 +1,71 @@
-ghost use Rattle.std.specs.Prelude.{◌≡◌, ℕ, ◌<◌, ◌≤◌, ◌+◌, ◌-◌, ◌%◌, List, Bool, [], ◌∷◌, length, get_or, IfOk, MatchOption};
-ghost use Rattle.ps_prim.specs.declared.prims.Primitive.{Primitive as Prim};
-ghost use Rattle.ps_prim.specs.Maps.{AllWithin};
-ghost use Rattle.pathsum.specs.Composed.{IsComposed};
-ghost use Rattle.pathsum.specs.Compositions.{IsComposition, IsPlainWithin};
-ghost use Rattle.pathsum.specs.Plain.{AllPlain};
-ghost use Rattle.pathsum.specs.Verdicts.{Decides, OutputDifference, PhaseDifference, NoOutput, LeastPhase, LeastOutput};
+//! The answer to two lists of prims.
+
+ghost use Rattle.std.specs.Prelude.{◌≡◌, ◌≤◌, ◌∷◌, [], length, IfOk};
+ghost use Rattle.ps_prim.specs.Maps.{IsWithin, AllWithin};
+ghost use Rattle.ps_reach.specs.Runs.{run_of};
+ghost use Rattle.ps_reach.specs.Judging.{finding_of};
+ghost use Rattle.pathsum.specs.Verdicts.{Says, IsVerdict};
 
 use super::answer::Answer;
-use super::compose::{Composed, PlainSum, compose};
 use super::input::Input;
-use ps_mono::Mono;
-use ps_prim::Prim;
+use ps_normal::same_gates;
+use ps_prim::{Item, Prim};
+use ps_reach::{Items, Verdict};
 use std::alloc::{AllocError, Global};
+use std::sync::Arc;
 
-/// Whether two lists of prims on the same qubits are one linear map, and if not, where they differ.
-pub fn compare(
+/// Whether two lists of prims on the same qubits are one linear map.
+pub fn decide(
     alloc: Global,
     qubits: u32,
     first: &[Prim],
     second: &[Prim],
 ) -> Result<Answer, AllocError>
-    requires few { qubits ≤ 64 }
+    requires width { (1 ≤ qubits) × (qubits ≤ 64) }
+    requires first_few { length first.now ≤ 65536 }
+    requires second_few { length second.now ≤ 65536 }
     requires first_within { AllWithin qubits first.now }
     requires second_within { AllWithin qubits second.now }
-    requires first_plain { AllPlain first.now }
-    requires second_plain { AllPlain second.now }
-    ensures { IfOk result (Decides qubits first.now second.now) }
+    ensures { IfOk result (IsVerdict qubits first.now second.now) }
 {
-    let a = match compose(alloc, qubits, first)? {
-        Composed::Sum(sum) => sum,
-        Composed::Passed(count) => return Ok(Answer::Passed(count)),
-    };
-    let b = match compose(alloc, qubits, second)? {
-        Composed::Sum(sum) => sum,
-        Composed::Passed(count) => return Ok(Answer::Passed(count)),
-    };
-    difference(qubits, &a, &b)
+    let first = Arc::new(alloc, one_by_one(alloc, first)?)?;
+    let second = Arc::new(alloc, one_by_one(alloc, second)?)?;
+    let judged = same_gates(alloc, &first, &second, qubits)?;
+    Ok(told(qubits, judged.verdict))
 }
 
-// The answer to two sums that were composed.
-fn difference(qubits: u32, a: &PlainSum, b: &PlainSum) -> Result<Answer, AllocError>
-    requires few { qubits ≤ 64 }
-    requires wide { length a.now.outputs.items ≡ length b.now.outputs.items }
-    ensures { IfOk result (λ answer. (A B : List Prim) → IsPlainWithin qubits A → IsPlainWithin qubits B → IsComposition qubits A (Composed.Sum a.now) → IsComposition qubits B (Composed.Sum b.now) → Decides qubits A B answer) }
+// An item for each prim.
+fn one_by_one(alloc: Global, prims: &[Prim]) -> Result<Items, AllocError>
+    requires { AllWithin 64 prims.now }
+    ensures run { IfOk result (λ s. run_of s ≡ prims.now) }
+    ensures count { IfOk result (λ s. length s ≡ length prims.now) }
 {
-    match output_difference(a, b)? {
-        Some(at) => Ok(Answer::No(Input { qubits, at })),
-        None => match phase_difference(a, b)? {
-            Some(at) => Ok(Answer::No(Input { qubits, at })),
-            None => Ok(Answer::Yes),
-        },
+    let mut list = Vec::with_capacity(alloc, prims.len())?;
+    'prims: for prim in prims {
+        list.push(Arc::new(alloc, single(alloc, prim)?)?)?;
     }
+    Ok(Items::from_vec(list))
 }
 
-// The least monomial of the difference of the first outputs that differ.
-fn output_difference(a: &PlainSum, b: &PlainSum) -> Result<Option<Mono>, AllocError>
-    requires { length a.now.outputs.items ≡ length b.now.outputs.items }
-    ensures { IfOk result (λ r. (n : ℕ) (A B : List Prim) → IsComposed n A a.now.outputs.items a.now.phase → IsComposed n B b.now.outputs.items b.now.phase → MatchOption r (NoOutput n A B) (LeastOutput n A B)) }
+// The item of one prim.
+fn single(alloc: Global, prim: &Prim) -> Result<Item, AllocError>
+    requires { IsWithin 64 prim.now }
+    ensures { IfOk result (λ i. i.prims ≡ prim.now ∷ []) }
 {
-    for q in 0..a.outputs.len() {
-        let difference = a.outputs[q].xor(&b.outputs[q])?;
-        match difference.least() {
-            Some(least) => return Ok(Some(*least)),
-            None => {}
-        }
-    }
-    Ok(None)
+    let mut prims = Vec::with_capacity(alloc, 1)?;
+    prims.push(*prim)?;
+    Ok(Item::new(prims))
 }
 
-// The least monomial of the second phase less the first.
-fn phase_difference(a: &PlainSum, b: &PlainSum) -> Result<Option<Mono>, AllocError>
-    ensures { IfOk result (λ r. (n : ℕ) (A B : List Prim) → IsComposed n A a.now.outputs.items a.now.phase → IsComposed n B b.now.outputs.items b.now.phase → MatchOption r (PhaseDifference n A B []) (LeastPhase n A B)) }
+// The answer that tells a verdict.
+fn told(qubits: u32, verdict: Verdict) -> Answer
+    requires { qubits ≤ 64 }
+    ensures { Says qubits (finding_of verdict) result }
 {
-    let difference = b.phase.add(&a.phase.neg()?)?;
-    match difference.terms() {
-        [least, ..] => Ok(Some(least.mono)),
-        [] => Ok(None),
+    match verdict {
+        Verdict::Yes => Answer::Yes,
+        Verdict::No(at) => Answer::No(Input { qubits, at }),
+        Verdict::Stuck(sum) => Answer::Stuck(sum),
+        Verdict::Passed(evidence) => Answer::Passed(evidence.passed),
     }
 }

@@ -7,3 +7,4 @@ pub mod Decimals
 pub mod Postfix
 pub mod Turning
 pub mod Reals
+pub mod Single

@@ -1,6 +1,8 @@
 //! The value of an expression.
 
-ghost use Rattle.std.specs.Prelude.{◌≡◌, ℕ, ◌+◌, ◌<◌, ◌≤◌, true, reverse, length, OnOk, List, ◌∷◌};
+ghost use Rattle.std.specs.Prelude.{◌≡◌, ℕ, ◌+◌, ◌<◌, ◌≤◌, true, reverse, length, OnOk, List, ◌∷◌, Result};
+ghost use Rattle.qasm_angle.specs.declared.types.Pair.{Pair};
+ghost use Rattle.qasm_angle.specs.declared.types.AngleFault.{AngleFault};
 ghost use Rattle.qasm_angle.specs.Trees.{Tree, postfix, wants};
 ghost use Rattle.qasm_angle.specs.Values.{LeafIs, JoinedIs, Values, Told};
 ghost use Rattle.qasm_angle.specs.Machine.{leaves_one, Stepped};
@@ -104,6 +106,7 @@ fn run(alloc: Global, ops: &[Op], params: &[Pair]) -> Result<Pair, AngleFault>
 /// `Memory` can come in place of any answer.
 pub fn value(alloc: Global, expr: &Expr, params: &[Pair]) -> Result<Pair, AngleFault>
     ensures value { (t : Tree) → postfix t ≡ expr.now → Told result (λ r. Values params.now t r) }
+    ensures only { (t : Tree) → postfix t ≡ expr.now → Told result (λ r. (s : Result Pair AngleFault) → Values params.now t s → s ≡ r) }
 {
     run(alloc, expr.ops(), params)
 }

@@ -1,10 +1,9 @@
 -- Identifiers among tokens, and operations of marks.
-use Rattle.std.proofs.Common.{◌≡◌, ℕ, zero, suc, ◌+◌, ◌-◌, ◌<◌, ◌≤◌, List, [], ◌∷◌, ◌++◌, arith, refl, sym, ◌∙◌, ap, subst, append_assoc, add-zero, add-suc}
+use Rattle.std.proofs.Common.{◌≡◌, ℕ, zero, suc, ◌+◌, ◌-◌, ◌≤◌, List, [], ◌∷◌, ◌++◌, arith, refl, sym, ◌∙◌, ap}
 use Rattle.qasm_lex.specs.declared.types.Token.{Token}
 use Rattle.qasm_angle.specs.declared.types.Op.{Op}
 use Rattle.qasm_parse.specs.declared.sort.Sort.{Sort}
 use Rattle.qasm_parse.specs.declared.sort.Mark.{Mark}
-use Rattle.qasm_parse.specs.declared.program.Span.{Span}
 use Rattle.qasm_parse.specs.Grammar.{at}
 use Rattle.qasm_parse.specs.Phrases.{span_of}
 use Rattle.qasm_parse.specs.Formulas.{ids, id_at, id_count, counts, OpIs, OpsAre, no_op, one_op}

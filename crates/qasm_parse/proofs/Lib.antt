@@ -4,3 +4,10 @@ pub mod Answering
 pub mod Passing
 pub mod Counting
 pub mod Wholeness
+pub mod Numerals
+pub mod Beginnings
+pub mod Cut
+pub mod Single
+pub mod Whole
+pub mod Within
+pub mod Ranks

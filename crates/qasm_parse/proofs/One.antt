@@ -1,14 +1,12 @@
 -- One reading of each expression.
-use Rattle.std.proofs.Common.{◌≡◌, ◌≢◌, ◌⊎◌, inl, inr, ℕ, ◌+◌, ◌<◌, ◌≤◌, List, [], ◌∷◌, ◌++◌, length, ◌-◌, arith, refl, sym, ◌∙◌, ap, subst, Option, Some, None}
+use Rattle.std.proofs.Common.{◌≡◌, ◌≢◌, ◌⊎◌, inl, inr, ℕ, ◌+◌, ◌<◌, List, [], ◌∷◌, ◌++◌, ◌-◌, arith, refl, sym, ◌∙◌, ap, subst, Some, None}
 use Rattle.qasm_parse.specs.declared.sort.Mark.{Mark}
 use Rattle.qasm_parse.specs.declared.sort.Mark.TheVariants.{Neg, Pow, Func}
 use Rattle.qasm_parse.specs.declared.sort.Sort.{Sort}
-use Rattle.qasm_parse.specs.declared.sort.Sort.TheVariants.{Open, Close, Function, Power, Minus}
-use Rattle.qasm_parse.specs.declared.sort.Level.{Level}
-use Rattle.qasm_parse.specs.declared.sort.Level.TheVariants.{Sums, Products}
-use Rattle.qasm_parse.specs.declared.fault.ParseFault.{ParseFault}
+use Rattle.qasm_parse.specs.declared.sort.Sort.TheVariants.{Open, Close, Function}
+use Rattle.qasm_parse.specs.declared.sort.Level.TheVariants.{Sums}
 use Rattle.qasm_parse.specs.declared.fault.ParseFault.TheVariants.{Syntax, Deep}
-use Rattle.qasm_parse.specs.Grammar.{at, sign_of, leaf_of, Found, done, bad, front, behind, Part, chain, tail, signed, power, atom, operand, Reads, chained, chained_bad, more, more_bad, stop, negated, negated_deep, unsigned, based, based_bad, raised, raised_deep, leaf, grouped, grouped_open, grouped_bad, grouped_deep, called, called_open, called_bad, called_short, called_deep, wrong}
+use Rattle.qasm_parse.specs.Grammar.{at, leaf_of, Found, done, bad, front, behind, Part, chain, atom, Reads, chained, chained_bad, more, more_bad, stop, negated, negated_deep, unsigned, based, based_bad, raised, raised_deep, leaf, grouped, grouped_open, grouped_bad, grouped_deep, called, called_open, called_bad, called_short, called_deep, wrong}
 
 front_same : (es fs : List Mark) (r s : Found) → es ≡ fs → r ≡ s → front es r ≡ front fs s
 front_same es fs r s e f = ap (λ x. front x r) e ∙ ap (front fs) f

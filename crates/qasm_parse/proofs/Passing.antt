@@ -1,5 +1,5 @@
 -- Faults that are passed on, and lists, one thing after another.
-use Rattle.std.proofs.Common.{◌≡◌, ◌≢◌, ℕ, ◌+◌, ◌<◌, ◌≤◌, List, [], ◌∷◌, ◌++◌, length, refl, sym, ◌∙◌, ap, subst, append_assoc, Result, Ok, Err, Bool, true, false, not}
+use Rattle.std.proofs.Common.{◌≡◌, ◌≢◌, ℕ, ◌+◌, ◌≤◌, List, [], ◌∷◌, ◌++◌, length, refl, sym, ◌∙◌, ap, subst, append_assoc, arith, Result, Ok, Err, Bool, true, false, not}
 use Rattle.std.proofs.lemmas.List.{get_or_past}
 use Rattle.qasm_parse.specs.declared.sort.Sort.{Sort}
 use Rattle.qasm_parse.specs.declared.sort.Sort.TheVariants.{Comma, End}
@@ -16,9 +16,11 @@ use Rattle.qasm_parse.specs.declared.program.Formula.{Formula}
 use Rattle.qasm_parse.specs.declared.program.Arg.{Arg}
 use Rattle.qasm_parse.specs.declared.program.Call.{Call}
 use Rattle.qasm_parse.specs.declared.program.Called.{Called}
+use Rattle.qasm_parse.specs.declared.program.Inner.{Inner}
+use Rattle.qasm_parse.specs.declared.program.Statement.TheVariants.{Gate}
 use Rattle.qasm_parse.specs.Formulas.{IsFormula, no_formula}
 use Rattle.qasm_parse.specs.Grammar.{at, chain, Answers}
-use Rattle.qasm_parse.specs.Phrases.{Got, got, miss, put, Listed, final, next, missing, Told, Listing, Onward, Not_back, Stands, IsSpan, there, After, after, span_of, IsArg, bare, no_name, missed}
+use Rattle.qasm_parse.specs.Phrases.{Got, got, miss, put, Listed, final, next, Told, Listing, Onward, Not_back, Stands, IsSpan, there, After, after, span_of, IsArg, bare, no_name, missed}
 
 module _ {A : Type 0} (ts : List Sort) (thing : ℕ → Got A → Type 0) where
   put_put : (xs ys : List A) (r : Got (List A)) → put xs (put ys r) ≡ put (xs ++ ys) r
@@ -136,3 +138,46 @@ call_same g p q xs ys us vs j k e f h i =
 
 pub after_at : {B : Type 0} {ts : List Sort} {s : Sort} {rest : ℕ → Got B → Type 0} {i j : ℕ} {r : Got B} → at ts i ≡ s → j ≡ i + 1 → rest j r → After ts s rest i r
 after_at {rest = rest} {r = r} h e k = after h (subst (λ x. rest x r) e k)
+
+-- from a place further on
+pub onward_from : {A : Type 0} (ts : List Sort) (i j : ℕ) (r : Result (A × ℕ) ParseFault) → i ≤ j → Onward ts j r → Onward ts i r
+onward_from ts i j (Ok x) h (on, in_it) = (omega arith, in_it)
+onward_from ts i j (Err f) h on = tt
+
+pub got_same : {A : Type 0} (x y : A) (j k : ℕ) → x ≡ y → j ≡ k → got x j ≡ got y k
+got_same x y j k e f = ap (λ z. got z j) e ∙ ap (λ z. got y z) f
+
+pub gate_same : (name : Span) (ps qs us vs : List Span) (xs ys : List Inner) (j : ℕ) → ps ≡ qs → us ≡ vs → xs ≡ ys
+    → got (Gate name ps us xs) j ≡ got (Gate name qs vs ys) j
+gate_same name ps qs us vs xs ys j e f g =
+    ap (λ (z : List Span). got (Gate name z us xs) j) e ∙ ap (λ (z : List Span). got (Gate name qs z xs) j) f ∙ ap (λ (z : List Inner). got (Gate name qs vs z) j) g
+
+-- things one after another up to an end
+pub put_none : {A : Type 0} (P : Got (List A) → Type 0) (r : Got (List A)) → P r → P (put [] r)
+put_none P (got xs j) h = h
+put_none P (miss f) h = h
+
+pub put_one : {A : Type 0} (xs new : List A) (a : A) (r : Got (List A)) → new ≡ xs ++ (a ∷ []) → put xs (put (a ∷ []) r) ≡ put new r
+put_one xs new a (got ys j) e = ap (λ z. got z j) (sym (append_assoc xs (a ∷ []) ys) ∙ ap (λ z. z ++ ys) (sym e))
+put_one xs new a (miss f) e = refl
+
+-- what is told of one thing, told of another
+pub told_weaker : {A : Type 0} (P Q : Got A → Type 0) (r : Result (A × ℕ) ParseFault) → ((g : Got A) → P g → Q g) → Told r P → Told r Q
+told_weaker P Q (Ok x) f h = f (got x.0 x.1) h
+told_weaker P Q (Err Memory) f h = tt
+told_weaker P Q (Err (Version n)) f h = f (miss (Version n)) h
+told_weaker P Q (Err (Syntax n)) f h = f (miss (Syntax n)) h
+told_weaker P Q (Err (NotUnitary n)) f h = f (miss (NotUnitary n)) h
+told_weaker P Q (Err (Include n)) f h = f (miss (Include n)) h
+told_weaker P Q (Err (Opaque n)) f h = f (miss (Opaque n)) h
+told_weaker P Q (Err (Deep n)) f h = f (miss (Deep n)) h
+
+pub listing_weaker : {A B : Type 0} (view : A → B) (P Q : Got B → Type 0) (r : Result (A × ℕ) ParseFault) → ((g : Got B) → P g → Q g) → Listing view r P → Listing view r Q
+listing_weaker view P Q (Ok x) f h = f (got (view x.0) x.1) h
+listing_weaker view P Q (Err Memory) f h = tt
+listing_weaker view P Q (Err (Version n)) f h = f (miss (Version n)) h
+listing_weaker view P Q (Err (Syntax n)) f h = f (miss (Syntax n)) h
+listing_weaker view P Q (Err (NotUnitary n)) f h = f (miss (NotUnitary n)) h
+listing_weaker view P Q (Err (Include n)) f h = f (miss (Include n)) h
+listing_weaker view P Q (Err (Opaque n)) f h = f (miss (Opaque n)) h
+listing_weaker view P Q (Err (Deep n)) f h = f (miss (Deep n)) h

@@ -1,5 +1,5 @@
 -- The operations of an expression are one whole expression in postfix order.
-use Rattle.std.proofs.Common.{◌≡◌, ◌≢◌, ℕ, ◌+◌, ◌-◌, ◌<◌, ◌≤◌, List, [], ◌∷◌, ◌++◌, refl, sym, ◌∙◌, ap, subst, append_assoc, append-nil, Option, Some, None}
+use Rattle.std.proofs.Common.{◌≡◌, ℕ, List, [], ◌∷◌, ◌++◌, refl, sym, ◌∙◌, ap, append_assoc, append-nil, Some}
 use Rattle.qasm_lex.specs.declared.types.Token.{Token}
 use Rattle.qasm_angle.specs.declared.types.Op.{Op}
 use Rattle.qasm_angle.specs.Trees.{wants, Tree, leaf as leaf_tree, one as one_tree, two as two_tree, postfix, IsExpression}
@@ -9,7 +9,6 @@ use Rattle.qasm_parse.specs.declared.sort.Mark.{Mark}
 use Rattle.qasm_parse.specs.declared.sort.Mark.TheVariants.{Number, Pi as PiMark, Id as IdMark, Neg, Add, Sub, Mul, Div, Pow, Func}
 use Rattle.qasm_parse.specs.declared.sort.Level.{Level}
 use Rattle.qasm_parse.specs.declared.sort.Level.TheVariants.{Sums, Products}
-use Rattle.qasm_parse.specs.declared.fault.ParseFault.{ParseFault}
 use Rattle.qasm_parse.specs.Grammar.{at, sign_of, leaf_of, Found, done, bad, front, behind, Part, chain, tail, signed, power, atom, operand, Reads, chained, chained_bad, more, more_bad, stop, negated, negated_deep, unsigned, based, based_bad, raised, raised_deep, leaf, grouped, grouped_open, grouped_bad, grouped_deep, called, called_open, called_bad, called_short, called_deep, wrong}
 use Rattle.qasm_parse.specs.Formulas.{OpIs, number_is, id_is, pi_is, neg_is, add_is, sub_is, mul_is, div_is, pow_is, func_is, OpsAre, no_op, one_op}
 

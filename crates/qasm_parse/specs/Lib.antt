@@ -4,3 +4,4 @@ pub mod Phrases
 pub mod Numbers
 pub mod Formulas
 pub mod Statements
+pub mod Places

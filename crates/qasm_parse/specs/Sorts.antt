@@ -1,5 +1,5 @@
 -- The terminal of a token.
-use Rattle.std.specs.Prelude.{ℕ, List, Bool, true, false, bytes_eq, codes, if◌then◌else◌, ◌&&◌, ◌||◌, nat_le, nat_eq, get_or, [], ◌∷◌, slice_range, ◌==◌, map, ◌<◌, ◌≤◌, length}
+use Rattle.std.specs.Prelude.{ℕ, List, Bool, bytes_eq, codes, if◌then◌else◌, ◌&&◌, ◌||◌, nat_le, get_or, slice_range, ◌==◌, map, ◌<◌, ◌≤◌, length}
 use Rattle.std.specs.List.{list_all}
 use Rattle.qasm_parse.specs.declared.sort.Sort.{Sort}
 use Rattle.qasm_parse.specs.declared.sort.Sort.TheVariants.{OpenQasm, Include, Qreg, Creg, Gate, Opaque, Barrier, Outside, Universal, Cx, Pi, Function, Id, Other, Semicolon, Comma, Open, Close, OpenBracket, CloseBracket, OpenBrace, CloseBrace, Plus, Minus, Times, Over, Power, Whole, Decimal, Library, Text as TextSort}

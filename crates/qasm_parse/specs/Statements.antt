@@ -1,11 +1,10 @@
 -- Statements, blocks and texts.
-use Rattle.std.specs.Prelude.{◌≡◌, ◌≢◌, ℕ, ◌+◌, ◌<◌, Bool, true, false, List, [], ◌∷◌, ◌++◌, length, get_or, Result, Ok, Err}
+use Rattle.std.specs.Prelude.{◌≡◌, ◌≢◌, ℕ, ◌+◌, Bool, true, false, List, [], ◌∷◌, length, get_or, Result, Ok, Err}
 use Rattle.qasm_lex.specs.declared.types.Token.{Token}
 use Rattle.qasm_lex.specs.declared.types.Kind.TheVariants.{Sign}
 use Rattle.qasm_parse.specs.declared.sort.Sort.{Sort}
 use Rattle.qasm_parse.specs.declared.sort.Sort.TheVariants.{End, OpenQasm, Include as IncludeWord, Qreg as QregWord, Creg as CregWord, Gate as GateWord, Opaque as OpaqueWord, Barrier as BarrierWord, Outside, Universal, Cx as CxWord, Id, Whole, Library, Text, Semicolon, Comma, Open, Close, OpenBracket, CloseBracket, OpenBrace, CloseBrace}
 use Rattle.qasm_parse.specs.declared.program.Span.{Span}
-use Rattle.qasm_parse.specs.declared.program.Arg.{Arg}
 use Rattle.qasm_parse.specs.declared.program.Call.{Call}
 use Rattle.qasm_parse.specs.declared.program.Called.TheVariants.{U, Cx, Named}
 use Rattle.qasm_parse.specs.declared.program.Inner.{Inner}
@@ -15,11 +14,13 @@ use Rattle.qasm_parse.specs.declared.program.Statement.TheVariants.{Include, Qre
 use Rattle.qasm_parse.specs.declared.phrases.Form.{Form}
 use Rattle.qasm_parse.specs.declared.phrases.Form.TheVariants.{Bare, Indexed}
 use Rattle.qasm_parse.specs.declared.whence.Whence.{Whence}
-use Rattle.qasm_parse.specs.declared.whence.Whence.TheVariants.{Text as OfText, Block}
+use Rattle.qasm_parse.specs.declared.whence.Whence.TheVariants.{Text as TextWhence, Block}
+use Rattle.qasm_parse.specs.declared.whence.Bits.{Bits}
+use Rattle.qasm_parse.specs.declared.whence.Bits.TheVariants.{Quantum, Classical}
 use Rattle.qasm_parse.specs.declared.fault.ParseFault.{ParseFault}
 use Rattle.qasm_parse.specs.declared.fault.ParseFault.TheVariants.{Version, Syntax, NotUnitary, Include as IncludeFault, Opaque, Deep, Memory}
 use Rattle.qasm_parse.specs.Grammar.{at}
-use Rattle.qasm_parse.specs.Sorts.{is_version}
+use Rattle.qasm_parse.specs.Sorts.{is_version, sorts_of}
 use Rattle.qasm_parse.specs.Phrases.{Got, got, miss, put, Gives, After, Then, Listed, Enclosed, span_of, IsSpan, IsArg}
 use Rattle.qasm_parse.specs.Formulas.{IsFormula, text_at}
 
@@ -70,29 +71,42 @@ pub data IsBody (bytes : List ℕ) (tk : List Token) (ts : List Sort) : ℕ → 
 abbrev pub IsRegister : List Token → List Sort → (Span → Span → Statement) → ℕ → Got Statement → Type 0
 IsRegister tk ts make i r = Then (IsSpan tk ts Id) (λ name. After ts OpenBracket (Then (IsSpan tk ts Whole) (λ size. After ts CloseBracket (After ts Semicolon (Gives (make name size)))))) i r
 
+-- the declaration of a register
+abbrev pub made : Bits → Span → Span → Statement
+made Quantum name size = Qreg name size
+made Classical name size = Creg name size
+
+-- what a declaration begins with
+abbrev pub begins_declaration : Sort → Bool
+begins_declaration IncludeWord = true
+begins_declaration QregWord = true
+begins_declaration CregWord = true
+begins_declaration GateWord = true
+begins_declaration s = false
+
 -- the statements that declare: registers, gates and the library
 pub data IsDeclaration (bytes : List ℕ) (tk : List Token) (ts : List Sort) (i : ℕ) : Got Statement → Type 0 where
   includes : {r : Got Statement} → at ts i ≡ IncludeWord → at ts (i + 1) ≡ Library → After ts Semicolon (Gives (Include (span_of tk (i + 1)))) (i + 2) r → IsDeclaration bytes tk ts i r
   other_text : at ts i ≡ IncludeWord → at ts (i + 1) ≡ Text → IsDeclaration bytes tk ts i (miss (IncludeFault (i + 1)))
   no_text : at ts i ≡ IncludeWord → at ts (i + 1) ≢ Library → at ts (i + 1) ≢ Text → IsDeclaration bytes tk ts i (miss (Syntax (i + 1)))
-  quantum : {r : Got Statement} → at ts i ≡ QregWord → IsRegister tk ts (λ name size. Qreg name size) (i + 1) r → IsDeclaration bytes tk ts i r
-  classical : {r : Got Statement} → at ts i ≡ CregWord → IsRegister tk ts (λ name size. Creg name size) (i + 1) r → IsDeclaration bytes tk ts i r
+  quantum : {r : Got Statement} → at ts i ≡ QregWord → IsRegister tk ts (made Quantum) (i + 1) r → IsDeclaration bytes tk ts i r
+  classical : {r : Got Statement} → at ts i ≡ CregWord → IsRegister tk ts (made Classical) (i + 1) r → IsDeclaration bytes tk ts i r
   defines : {r : Got Statement} → at ts i ≡ GateWord
       → Then (IsSpan tk ts Id) (λ name. Then (Enclosed ts (IsSpan tk ts Id)) (λ params. Then (Listed ts (IsSpan tk ts Id)) (λ args. After ts OpenBrace (Then (IsBody bytes tk ts) (λ body. Gives (Gate name params args body)))))) (i + 1) r
       → IsDeclaration bytes tk ts i r
 
 -- what a statement begins with; in a block nothing is declared
 abbrev pub begins : Whence → Sort → Bool
-begins OfText IncludeWord = true
-begins OfText QregWord = true
-begins OfText CregWord = true
-begins OfText GateWord = true
+begins TextWhence IncludeWord = true
+begins TextWhence QregWord = true
+begins TextWhence CregWord = true
+begins TextWhence GateWord = true
 begins w s = begins_inner s
 
 pub data IsStatement (bytes : List ℕ) (tk : List Token) (ts : List Sort) (whence : Whence) (i : ℕ) : Got Statement → Type 0 where
   apply : {r : Got Statement} → Then (IsCall bytes tk ts Indexed) (λ call. Gives (Apply call)) i r → IsStatement bytes tk ts whence i r
   barrier : {r : Got Statement} → at ts i ≡ BarrierWord → Then (Listed ts (IsArg tk ts Indexed)) (λ args. After ts Semicolon (Gives (Barrier args))) (i + 1) r → IsStatement bytes tk ts whence i r
-  declares : {r : Got Statement} → whence ≡ OfText → IsDeclaration bytes tk ts i r → IsStatement bytes tk ts whence i r
+  declares : {r : Got Statement} → whence ≡ TextWhence → IsDeclaration bytes tk ts i r → IsStatement bytes tk ts whence i r
   outside : at ts i ≡ Outside → IsStatement bytes tk ts whence i (miss (NotUnitary i))
   opaquely : at ts i ≡ OpaqueWord → IsStatement bytes tk ts whence i (miss (Opaque i))
   no_statement : begins whence (at ts i) ≡ false → IsStatement bytes tk ts whence i (miss (Syntax i))
@@ -108,7 +122,7 @@ pub data IsText (bytes : List ℕ) (tk : List Token) (ts : List Sort) : Got (Lis
   no_word : at ts 0 ≢ OpenQasm → IsText bytes tk ts (miss (Version 0))
   no_version : at ts 0 ≡ OpenQasm → is_version (text_at bytes tk 1) ≡ false → IsText bytes tk ts (miss (Version 1))
   no_sign : at ts 0 ≡ OpenQasm → is_version (text_at bytes tk 1) ≡ true → at ts 2 ≢ Semicolon → IsText bytes tk ts (miss (Version 2))
-  text : {r : Got (List Statement)} → at ts 0 ≡ OpenQasm → is_version (text_at bytes tk 1) ≡ true → at ts 2 ≡ Semicolon → IsProgram bytes tk ts OfText 3 r → IsText bytes tk ts r
+  text : {r : Got (List Statement)} → at ts 0 ≡ OpenQasm → is_version (text_at bytes tk 1) ≡ true → at ts 2 ≡ Semicolon → IsProgram bytes tk ts TextWhence 3 r → IsText bytes tk ts r
 
 -- the offset of token n, and of the end past the last
 abbrev pub offset : List ℕ → List Token → ℕ → ℕ
@@ -127,3 +141,20 @@ placed bytes tk Memory = Memory
 abbrev pub answer : List ℕ → List Token → Got (List Statement) → Result (List Statement) ParseFault
 answer bytes tk (got s j) = Ok s
 answer bytes tk (miss f) = Err (placed bytes tk f)
+
+-- what a whole text with these tokens is: its statements, or its first fault
+abbrev pub OfText : List ℕ → List Token → Result (List Statement) ParseFault → Type 0
+OfText bytes tk r = (g : Got (List Statement)) × IsText bytes tk (sorts_of bytes tk) g × (r ≡ answer bytes tk g)
+
+-- and what a block is
+abbrev pub OfBlock : List ℕ → List Token → Result (List Statement) ParseFault → Type 0
+OfBlock bytes tk r = (g : Got (List Statement)) × IsProgram bytes tk (sorts_of bytes tk) Block 0 g × (r ≡ answer bytes tk g)
+
+-- what was answered, want of memory aside
+abbrev pub Known : Result (List Statement) ParseFault → (Result (List Statement) ParseFault → Type 0) → Type 0
+Known (Err Memory) P = Unit {0}
+Known r P = P r
+
+-- and nothing else could have been answered
+abbrev pub Only : Result (List Statement) ParseFault → (Result (List Statement) ParseFault → Type 0) → Type 0
+Only r P = Known r (λ a. (b : Result (List Statement) ParseFault) → P b → b ≡ a)

@@ -1,6 +1,6 @@
 //! Expressions.
 
-ghost use Rattle.std.specs.Prelude.{◌≡◌, ◌≢◌, ◌<◌, ◌≤◌, length};
+ghost use Rattle.std.specs.Prelude.{◌≡◌, ◌≢◌, ◌-◌, ◌<◌, ◌≤◌, length};
 ghost use Rattle.qasm_parse.specs.Grammar.{at as terminal, sign_of, leaf_of, chain as chain_part, signed as signed_part, power as power_part, atom as atom_part, operand as operand_part, Answers, GoesOn};
 ghost use Rattle.qasm_parse.specs.declared.sort.Sort.TheVariants.{End};
 
@@ -19,6 +19,7 @@ pub fn sort_at(sorts: &[Sort], at: usize) -> Sort
     }
 }
 
+/// What joins two operands of a level.
 fn operation(level: Level, sort: Sort) -> Option<Mark>
     ensures { result ≡ sign_of level sort }
 {
@@ -31,6 +32,7 @@ fn operation(level: Level, sort: Sort) -> Option<Mark>
     }
 }
 
+/// The operation of an atom of one terminal.
 fn simple(sort: Sort, at: u32) -> Option<Mark>
     ensures { result ≡ leaf_of sort at }
 {
@@ -65,6 +67,7 @@ pub fn chain(
     Ok(to)
 }
 
+/// An operand of a level.
 #[cycle(expr)]
 fn operand(
     level: Level,
@@ -84,6 +87,7 @@ fn operand(
     }
 }
 
+/// A power, or a minus and what it stands before.
 #[cycle(expr)]
 fn signed(sorts: &[Sort], at: usize, room: u32, ops: &mut Vec<Mark>) -> Result<usize, ParseFault>
     requires small { length sorts.now ≤ 16777216 }
@@ -95,13 +99,26 @@ fn signed(sorts: &[Sort], at: usize, room: u32, ops: &mut Vec<Mark>) -> Result<u
         if room == 0 {
             return Err(ParseFault::Deep(at as u32));
         }
-        let to = signed(sorts, at + 1, room - 1, ops)?;
+        let to = negated(sorts, at + 1, room, ops)?;
         ops.push(Mark::Neg)?;
         return Ok(to);
     }
     power(sorts, at, room, ops)
 }
 
+/// What a unary minus stands before: it binds less closely than `^`.
+#[cycle(expr)]
+fn negated(sorts: &[Sort], at: usize, room: u32, ops: &mut Vec<Mark>) -> Result<usize, ParseFault>
+    requires small { length sorts.now ≤ 16777216 }
+    requires inside { at ≤ length sorts.now }
+    requires some { 0 < room }
+    ensures reads { Answers sorts.now signed_part (room - 1) at ops.old.items ops.new.items result }
+    ensures goes_on { GoesOn sorts.now at result }
+{
+    signed(sorts, at, room - 1, ops)
+}
+
+/// An atom, or one raised to an exponent.
 #[cycle(expr)]
 fn power(sorts: &[Sort], at: usize, room: u32, ops: &mut Vec<Mark>) -> Result<usize, ParseFault>
     requires small { length sorts.now ≤ 16777216 }
@@ -114,13 +131,31 @@ fn power(sorts: &[Sort], at: usize, room: u32, ops: &mut Vec<Mark>) -> Result<us
         if room == 0 {
             return Err(ParseFault::Deep(middle as u32));
         }
-        let to = signed(sorts, middle + 1, room - 1, ops)?;
+        let to = exponent(sorts, middle + 1, room, ops)?;
         ops.push(Mark::Pow)?;
         return Ok(to);
     }
     Ok(middle)
 }
 
+/// The right side of `^`, which groups to the right.
+#[cycle(expr)]
+fn exponent(
+    sorts: &[Sort],
+    from: usize,
+    room: u32,
+    ops: &mut Vec<Mark>,
+) -> Result<usize, ParseFault>
+    requires small { length sorts.now ≤ 16777216 }
+    requires inside { from ≤ length sorts.now }
+    requires some { 0 < room }
+    ensures reads { Answers sorts.now signed_part (room - 1) from ops.old.items ops.new.items result }
+    ensures goes_on { GoesOn sorts.now from result }
+{
+    signed(sorts, from, room - 1, ops)
+}
+
+/// A number, pi, an identifier, a group or a call.
 #[cycle(expr)]
 fn atom(sorts: &[Sort], at: usize, room: u32, ops: &mut Vec<Mark>) -> Result<usize, ParseFault>
     requires small { length sorts.now ≤ 16777216 }
@@ -142,6 +177,7 @@ fn atom(sorts: &[Sort], at: usize, room: u32, ops: &mut Vec<Mark>) -> Result<usi
     }
 }
 
+/// An expression in parentheses.
 #[cycle(expr)]
 fn group(sorts: &[Sort], at: usize, room: u32, ops: &mut Vec<Mark>) -> Result<usize, ParseFault>
     requires small { length sorts.now ≤ 16777216 }
@@ -160,6 +196,7 @@ fn group(sorts: &[Sort], at: usize, room: u32, ops: &mut Vec<Mark>) -> Result<us
     }
 }
 
+/// A function with its operand.
 #[cycle(expr)]
 fn call(sorts: &[Sort], at: usize, room: u32, ops: &mut Vec<Mark>) -> Result<usize, ParseFault>
     requires small { length sorts.now ≤ 16777216 }

@@ -110,7 +110,7 @@ pub fn args(
     ensures reads { Listing (λ v. v.items) result (Listed sorts.now (ReadsArg tokens.now sorts.now form) at) }
     ensures goes_on { Onward sorts.now at result }
 {
-    let mut out = Vec::new(alloc);
+    let mut out = Vec::with_capacity(alloc, 2)?;
     let mut from = at;
     loop {
         let (one, to) = arg(form, tokens, sorts, from)?;

@@ -89,7 +89,8 @@ fn sign(b: u8) -> Sort
 /// The bytes of a token.
 pub fn text_of<'a>(bytes: &'a [u8], token: Token) -> &'a [u8]
     requires { IsWithin bytes.now token }
-    ensures { result.now ≡ spelling bytes.now token }
+    ensures value { result.now ≡ spelling bytes.now token }
+    ensures short { length result.now < 4294967296 }
 {
     &bytes[token.from as usize..token.to as usize]
 }
@@ -131,7 +132,7 @@ pub fn terminals(alloc: Global, bytes: &[u8], tokens: &[Token]) -> Result<Vec<So
     requires { All (IsWithin bytes.now) tokens.now }
     ensures { IfOk result (λ v. v.items ≡ sorts_of bytes.now tokens.now) }
 {
-    let mut out = Vec::new(alloc);
+    let mut out = Vec::with_capacity(alloc, tokens.len())?;
     for token in tokens {
         out.push(terminal(bytes, *token))?;
     }

@@ -1,4 +1,4 @@
-//! What statements are read from.
+//! What statements are read from, and what registers hold.
 
 /// What statements are read from.
 #[derive(Clone, Copy, Debug, PartialEq, Eq)]
@@ -7,4 +7,13 @@ pub enum Whence {
     Text,
     /// A block, in which nothing is declared.
     Block,
+}
+
+/// What a register holds.
+#[derive(Clone, Copy, Debug, PartialEq, Eq)]
+pub enum Bits {
+    /// Qubits.
+    Quantum,
+    /// Bits.
+    Classical,
 }

@@ -1,18 +1,17 @@
 use Rattle.std.proofs.Common.{◌≡◌, ◌++◌, ◌∷◌, [], refl, ap, sym, ◌∙◌, map, arith, ℕ, List, rules}
-use Rattle.pathsum.specs.Inputs.{bit_code, input_of, truths_from}
+use Rattle.pathsum.specs.Inputs.{bit_code}
 use Rattle.pathsum.proofs.InputLemmas.{digits_start, digits_next, digits_to}
 use Rattle.pathsum.proofs.answer.no_line.Goals as goal
-use Rattle.pathsum.proofs.answer.no_line.Goals.{then-contains, else-contains}
+use Rattle.pathsum.proofs.answer.no_line.Goals.{then-get, else-get}
 use Rattle.ps_mono.specs.Sets.{stands}
 
 pub loop-v-init : goal.loop-v-init
 loop-v-init c = search (rules, digits_start)
 
 pub loop-v-preserved : goal.loop-v-preserved
-loop-v-preserved c = digits_next _ _ _ _ _ c.loop-v.invariant (elim c.if-contains.branch [ then-contains w ↦ w.push-is ∙ ap bit_code (sym w.if-contains.true) ∙ ap bit_code c.contains.ensures | else-contains w ↦ w.push-is ∙ ap bit_code (sym w.if-contains.false) ∙ ap bit_code c.contains.ensures ]) c.in_ok-push.ensures.items
+loop-v-preserved c = digits_next _ _ _ _ _ c.loop-v.invariant (elim c.if-get.branch [ then-get w ↦ w.push-is ∙ ap bit_code (sym w.if-get.true) ∙ ap bit_code c.get.ensures | else-get w ↦ w.push-is ∙ ap bit_code (sym w.if-get.false) ∙ ap bit_code c.get.ensures ]) c.in_ok-push.ensures.items
 
 pub returns : goal.returns
-unfolding input_of
 returns c =
     let e : c.loop-v.v ≡ c.args.input.now.qubits = omega arith in
     c.in_ok-push-2.ensures.items ∙ ap (λ (xs : List ℕ). xs ++ (10 ∷ [])) (c.loop-v.invariant ∙ ap (digits_to c.args.input.now.at) e)

@@ -1,10 +1,8 @@
-use Rattle.std.proofs.Common.{◌≡◌, ℕ, ◌+◌, ◌-◌, ◌<◌, ◌≤◌, arith, List, [], ◌∷◌, ◌++◌, length, refl, sym, ◌∙◌, ap, subst, Ok, Err, ◌≢◌, Some, None, append-nil, take}
+use Rattle.std.proofs.Common.{◌≡◌, ◌+◌, ◌-◌, ◌<◌, arith, [], ◌∷◌, ◌++◌, length, sym, ◌∙◌, ap, subst, append-nil, take}
 use Rattle.std.proofs.lemmas.Result.{err_from_is_err_and}
-use Rattle.qasm_parse.specs.declared.sort.Sort.TheVariants.{Power, Close, Open}
 use Rattle.qasm_parse.specs.declared.sort.Mark.TheVariants.{Neg, Pow, Func}
 use Rattle.qasm_parse.specs.declared.sort.Level.TheVariants.{Sums}
-use Rattle.qasm_parse.specs.declared.fault.ParseFault.TheVariants.{Syntax, Deep}
-use Rattle.qasm_parse.specs.Grammar.{Reads, Answers, done, bad, front, behind, at, sign_of, leaf_of, chain, tail, signed, power, atom, operand, chained, chained_bad, more, more_bad, stop, negated, negated_deep, unsigned, based, based_bad, raised, raised_deep, leaf, grouped, grouped_open, grouped_bad, grouped_deep, called, called_open, called_bad, called_short, called_deep, wrong}
+use Rattle.qasm_parse.specs.Grammar.{Reads, done, bad, front, sign_of, leaf_of, chain, signed, power, atom, operand, chained, chained_bad, more, more_bad, stop, negated, negated_deep, unsigned, based, based_bad, raised, raised_deep, leaf, grouped, grouped_open, grouped_bad, grouped_deep, called, called_open, called_bad, called_short, called_deep, wrong}
 use Rattle.qasm_parse.proofs.Answering.{same_found, passed, one_behind, two_behind, front_front, none_past, cut_back}
 use Rattle.qasm_parse.proofs.expr.+expr.Goals as goal
 use Rattle.qasm_parse.proofs.expr.+expr.Goals.{atom-then-at-sorts+in_default, atom-else-at-sorts}
@@ -17,14 +15,14 @@ signed-returns-then-room-eq0-clause-reads t c = negated_deep (sym c.in-Minus.ens
 pub signed-returns-in_err-to-clause-reads : goal.signed-returns-in_err-to-clause-reads
 signed-returns-in_err-to-clause-reads t c =
     let low : 0 < c.args.room = omega arith in
-    passed c.args.sorts.now signed signed c.args.room c.args.at (c.args.room - 1) (c.args.at + 1) c.args.ops.now.items c.signed.new.ops.items c.args.ops.now.items c.signed.new.ops.items c.in_err-to.field-0.0 c.from_residual.result
+    passed c.args.sorts.now signed signed c.args.room c.args.at (c.args.room - 1) (c.args.at + 1) c.args.ops.now.items c.negated.new.ops.items c.args.ops.now.items c.negated.new.ops.items c.in_err-to.field-0.0 c.from_residual.result
     (err_from_is_err_and c.from_residual.result c.from_residual.ensures.1)
     (λ f h. negated (sym c.in-Minus.ensures.value) low h) c.in_err-to.ensures.reads
 
 pub signed-returns-in-Minus-clause-reads : goal.signed-returns-in-Minus-clause-reads
 signed-returns-in-Minus-clause-reads t c =
     let h = c.in_ok-to.ensures.reads in
-    (h.0 ++ (Neg ∷ []), one_behind c.args.ops.now.items c.signed.new.ops.items c.push.new.self.items h.0 Neg h.1 c.in_ok-push.ensures.items, negated (sym c.in-Minus.ensures.value) (omega arith) h.2)
+    (h.0 ++ (Neg ∷ []), one_behind c.args.ops.now.items c.negated.new.ops.items c.push.new.self.items h.0 Neg h.1 c.in_ok-push.ensures.items, negated (sym c.in-Minus.ensures.value) (omega arith) h.2)
 
 pub signed-returns : goal.signed-returns
 signed-returns t c = record {
@@ -46,7 +44,7 @@ power-returns-then-room-eq0-clause-reads t c = raised_deep c.in_ok-middle.ensure
 pub power-returns-in_err-to-clause-reads : goal.power-returns-in_err-to-clause-reads
 power-returns-in_err-to-clause-reads t c =
     let low : 0 < c.args.room = omega arith in
-    passed c.args.sorts.now power signed c.args.room c.args.at (c.args.room - 1) (c.in_ok-middle.middle + 1) c.args.ops.now.items c.signed.new.ops.items c.atom.new.ops.items c.signed.new.ops.items c.in_err-to.field-0.0 c.from_residual-in_err-to.result
+    passed c.args.sorts.now power signed c.args.room c.args.at (c.args.room - 1) (c.in_ok-middle.middle + 1) c.args.ops.now.items c.exponent.new.ops.items c.atom.new.ops.items c.exponent.new.ops.items c.in_err-to.field-0.0 c.from_residual-in_err-to.result
     (err_from_is_err_and c.from_residual-in_err-to.result c.from_residual-in_err-to.ensures.1)
     (λ f h. raised c.in_ok-middle.ensures.reads.2 (sym c.in-Power.ensures.value) low h) c.in_err-to.ensures.reads
 
@@ -54,7 +52,7 @@ pub power-returns-in-Power-clause-reads : goal.power-returns-in-Power-clause-rea
 power-returns-in-Power-clause-reads t c =
     let g = c.in_ok-middle.ensures.reads in
     let h = c.in_ok-to.ensures.reads in
-    (g.0 ++ (h.0 ++ (Pow ∷ [])), two_behind c.args.ops.now.items c.atom.new.ops.items c.signed.new.ops.items c.push.new.self.items g.0 h.0 Pow g.1 h.1 c.in_ok-push.ensures.items, raised g.2 (sym c.in-Power.ensures.value) (omega arith) h.2)
+    (g.0 ++ (h.0 ++ (Pow ∷ [])), two_behind c.args.ops.now.items c.atom.new.ops.items c.exponent.new.ops.items c.push.new.self.items g.0 h.0 Pow g.1 h.1 c.in_ok-push.ensures.items, raised g.2 (sym c.in-Power.ensures.value) (omega arith) h.2)
 
 pub power-returns : goal.power-returns
 power-returns t c =

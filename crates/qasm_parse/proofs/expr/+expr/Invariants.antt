@@ -1,4 +1,4 @@
-use Rattle.std.proofs.Common.{◌≡◌, ℕ, ◌+◌, ◌-◌, ◌*◌, ◌<◌, ◌≤◌, length, List, ◌++◌}
+use Rattle.std.proofs.Common.{◌≡◌, ◌+◌, ◌-◌, ◌*◌, ◌<◌, ◌≤◌, length, List, ◌++◌}
 use Rattle.qasm_parse.specs.declared.sort.Mark.{Mark}
 use Rattle.qasm_parse.specs.Grammar.{Found, front, Reads, chain, tail}
 use Rattle.qasm_parse.proofs.Rank.{rank}
@@ -12,6 +12,12 @@ decreases-call l = 8 * (length l.sorts.now - l.at)
 
 abbrev pub decreases-chain : goal.decreases-chain
 decreases-chain l = 8 * (length l.sorts.now - l.at) + 5 + rank l.level
+
+abbrev pub decreases-exponent : goal.decreases-exponent
+decreases-exponent l = 8 * (length l.sorts.now - l.from) + 4
+
+abbrev pub decreases-negated : goal.decreases-negated
+decreases-negated l = 8 * (length l.sorts.now - l.at) + 4
 
 abbrev pub decreases-group : goal.decreases-group
 decreases-group l = 8 * (length l.sorts.now - l.at)

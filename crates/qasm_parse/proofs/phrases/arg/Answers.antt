@@ -1,4 +1,4 @@
-use Rattle.std.proofs.Common.{◌≡◌, ◌+◌, ◌≢◌, ◌∙◌, sym, ap, subst, refl, Some, None}
+use Rattle.std.proofs.Common.{◌+◌, ◌∙◌, sym, ap, subst, refl, Some, None}
 use Rattle.std.proofs.lemmas.Result.{err_from_is_err_and}
 use Rattle.qasm_parse.specs.declared.sort.Sort.TheVariants.{Id, Whole, CloseBracket}
 use Rattle.qasm_parse.specs.declared.program.Arg.{Arg}

@@ -1,17 +1,15 @@
-use Rattle.std.proofs.Common.{◌≡◌, ◌≢◌, ℕ, ◌<◌, ◌≤◌, ◌∙◌, sym, arith, length, List, Vec, Global}
+use Rattle.std.proofs.Common.{◌<◌, ◌∙◌, sym, arith, length, Vec, Global}
 use Rattle.std.proofs.lemmas.Result.{err_from_is_err_and}
-use Rattle.qasm_parse.specs.Grammar.{at}
 use Rattle.qasm_parse.specs.declared.program.Arg.{Arg}
-use Rattle.qasm_parse.specs.declared.sort.Sort.TheVariants.{Comma, Id}
-use Rattle.qasm_parse.specs.Phrases.{Listed, IsArg, IsSpan, miss, missing}
+use Rattle.qasm_parse.specs.Phrases.{Listed, IsArg, miss, missing}
 use Rattle.qasm_parse.proofs.Passing.{one_more, the_last, listing_on}
 use Rattle.qasm_parse.proofs.phrases.args.Goals as goal
 
 pub returns-in_err-one-clause-reads : goal.returns-in_err-one-clause-reads
 returns-in_err-one-clause-reads c =
     let ts = c.args.sorts.now in
-    listing_on (λ (v : Vec Arg Global). v.items) (Listed ts (IsArg c.args.tokens.now ts c.args.form) c.args.at) (IsArg c.args.tokens.now ts c.args.form c.loop-out.from) c.in_err-one.field-0.0 c.from_residual.result
-    (err_from_is_err_and c.from_residual.result c.from_residual.ensures.1)
+    listing_on (λ (v : Vec Arg Global). v.items) (Listed ts (IsArg c.args.tokens.now ts c.args.form) c.args.at) (IsArg c.args.tokens.now ts c.args.form c.loop-out.from) c.in_err-one.field-0.0 c.from_residual-in_err-one.result
+    (err_from_is_err_and c.from_residual-in_err-one.result c.from_residual-in_err-one.ensures.1)
     (λ f h. c.loop-out.invariant.rest (miss f) (missing h)) c.in_err-one.ensures.reads
 
 pub loop-out-preserved : goal.loop-out-preserved

@@ -1,7 +1,6 @@
-use Rattle.std.proofs.Common.{◌≡◌, ◌≤◌, ◌-◌, length, List}
+use Rattle.std.proofs.Common.{◌≤◌, ◌-◌, length, List}
 use Rattle.qasm_parse.specs.declared.program.Arg.{Arg}
-use Rattle.qasm_parse.specs.declared.sort.Sort.TheVariants.{Id}
-use Rattle.qasm_parse.specs.Phrases.{Got, put, Listed, IsArg, IsSpan}
+use Rattle.qasm_parse.specs.Phrases.{Got, put, Listed, IsArg}
 use Rattle.qasm_parse.proofs.phrases.args.Given as goal
 
 -- whatever is listed from here on, behind what there is, is the whole list

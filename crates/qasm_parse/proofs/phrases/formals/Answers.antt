@@ -1,8 +1,8 @@
-use Rattle.std.proofs.Common.{◌≡◌, ◌+◌, ◌≢◌, ◌∙◌, sym, ap, subst, refl, arith, Vec, Global, List, length, ◌≤◌}
+use Rattle.std.proofs.Common.{◌+◌, ◌∙◌, sym, ap, subst, arith, Vec, Global, List}
 use Rattle.std.proofs.lemmas.Result.{err_from_is_err_and}
 use Rattle.qasm_parse.specs.declared.sort.Sort.TheVariants.{Id, Close}
 use Rattle.qasm_parse.specs.declared.program.Span.{Span}
-use Rattle.qasm_parse.specs.Phrases.{IsSpan, Listed, Enclosed, absent, empty, full, then, missed, after, elsewhere, got, miss}
+use Rattle.qasm_parse.specs.Phrases.{IsSpan, Listed, Enclosed, absent, empty, full, then, missed, after, elsewhere, got}
 use Rattle.qasm_parse.proofs.Passing.{listing_on, listing_not, told_from, back_err}
 use Rattle.qasm_parse.proofs.phrases.formals.Goals as goal
 

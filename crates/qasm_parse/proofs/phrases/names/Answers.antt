@@ -1,9 +1,8 @@
-use Rattle.std.proofs.Common.{◌≡◌, ◌≢◌, ℕ, ◌<◌, ◌≤◌, ◌∙◌, sym, arith, length, List, Vec, Global}
+use Rattle.std.proofs.Common.{◌<◌, ◌∙◌, sym, arith, length, Vec, Global}
 use Rattle.std.proofs.lemmas.Result.{err_from_is_err_and}
-use Rattle.qasm_parse.specs.Grammar.{at}
 use Rattle.qasm_parse.specs.declared.program.Span.{Span}
-use Rattle.qasm_parse.specs.declared.sort.Sort.TheVariants.{Comma, Id}
-use Rattle.qasm_parse.specs.Phrases.{Listed, IsArg, IsSpan, miss, missing}
+use Rattle.qasm_parse.specs.declared.sort.Sort.TheVariants.{Id}
+use Rattle.qasm_parse.specs.Phrases.{Listed, IsSpan, miss, missing}
 use Rattle.qasm_parse.proofs.Passing.{one_more, the_last, listing_on}
 use Rattle.qasm_parse.proofs.phrases.names.Goals as goal
 

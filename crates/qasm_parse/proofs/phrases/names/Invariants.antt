@@ -1,7 +1,7 @@
-use Rattle.std.proofs.Common.{◌≡◌, ◌≤◌, ◌-◌, length, List}
+use Rattle.std.proofs.Common.{◌≤◌, ◌-◌, length, List}
 use Rattle.qasm_parse.specs.declared.program.Span.{Span}
 use Rattle.qasm_parse.specs.declared.sort.Sort.TheVariants.{Id}
-use Rattle.qasm_parse.specs.Phrases.{Got, put, Listed, IsArg, IsSpan}
+use Rattle.qasm_parse.specs.Phrases.{Got, put, Listed, IsSpan}
 use Rattle.qasm_parse.proofs.phrases.names.Given as goal
 
 -- whatever is listed from here on, behind what there is, is the whole list

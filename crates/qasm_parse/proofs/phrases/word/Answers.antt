@@ -1,4 +1,3 @@
-use Rattle.std.proofs.Common.{◌≡◌, sym}
 use Rattle.std.proofs.lemmas.Result.{err_from_is_err_and}
 use Rattle.qasm_parse.specs.Phrases.{IsSpan, other}
 use Rattle.qasm_parse.proofs.Passing.{told_not, span_there}

@@ -1,0 +1,237 @@
+//! Whether two segments are one linear map.
+
+ghost use Rattle.std.specs.Prelude.{◌≡◌, ◌≤◌, ◌<◌, ◌↔◌, [], length, IsTrue, IfOk};
+ghost use Rattle.ps_reach.specs.Runs.{run_of};
+ghost use Rattle.ps_reach.specs.Parts.{held, overrun_of};
+ghost use Rattle.ps_reach.specs.Judging.{outcome_of, finding_of};
+ghost use Rattle.ps_reach.specs.Reductions.{ReducesTo, normal};
+ghost use Rattle.ps_reach.specs.Findings.{IsUnit, Shows, Overlaps, Compares, limit as limit_of};
+ghost use Rattle.ps_overlap.specs.Overlapping.{IsOverlapOf};
+ghost use Rattle.ps_normal.specs.Ends.{IsEnded};
+ghost use Rattle.ps_reach.specs.Fillings.{Fills};
+ghost use Rattle.ps_normal.specs.Fillings.{CanRun, IsRecordOf};
+ghost use Rattle.ps_normal.specs.Comparing.{HasFloor, Comparable, Decides};
+ghost use Rattle.ps_normal.specs.Founds.{IsFound};
+
+use super::evidences::{evidence, shared_evidence};
+use super::filled::Filled;
+use super::filling::fill_items;
+use super::parts::{Ended, Places};
+use super::reduce::reduce;
+use ps_io::NeverStop;
+use ps_mono::Bits;
+use ps_overlap::{first_point, least_point, overlap, vanishing};
+use ps_reach::{Body, Evidence, Items, Judged, Record, Steps, Verdict};
+use ps_rules::Step;
+use ps_sum::{JoinFault, PathSum};
+use std::alloc::{AllocError, Global};
+use std::sync::Arc;
+
+// What was found, and the steps that led there.
+#[derive(Drop)]
+pub struct Found {
+    pub steps: Vec<Step>,
+    pub verdict: Verdict,
+}
+
+// An overlap stands at no place.
+const NOWHERE: Places = Places {
+    from: 0,
+    middle: 0,
+    to: 0,
+};
+
+// Whether a sum without path variables is 1.
+fn is_unit(sum: &PathSum) -> bool
+    requires { sum.now.m ≡ 0 }
+    ensures { IsTrue result ↔ IsUnit sum.now }
+{
+    sum.k == 0 && sum.phase.count() == 0
+}
+
+// What a closed sum without path variables shows.
+fn plainly_shown(sum: &PathSum) -> Verdict
+    requires closed { sum.now.outs ≡ [] }
+    requires plain { sum.now.m ≡ 0 }
+    ensures { Shows sum.now (finding_of result) }
+{
+    if is_unit(sum) {
+        return Verdict::Yes;
+    }
+    let mut at = Bits::zero();
+    first_point(sum, &mut at);
+    Verdict::No(at)
+}
+
+// What an irreducible closed sum shows.
+fn shown(sum: PathSum) -> Verdict
+    requires { sum.outs ≡ [] }
+    ensures { Shows sum (finding_of result) }
+{
+    if sum.m == 0 {
+        return plainly_shown(&sum);
+    }
+    match vanishing(&sum) {
+        Some(y) => {
+            let mut at = Bits::zero();
+            least_point(&sum, y, &mut at);
+            Verdict::No(at)
+        }
+        None => Verdict::Stuck(sum),
+    }
+}
+
+// What the overlap of two sums comes to.
+fn reduced(alloc: Global, sum: PathSum) -> Result<Found, AllocError>
+    requires closed { sum.outs ≡ [] }
+    requires floor { HasFloor sum }
+    ensures { IfOk result (λ f. IsFound sum f) }
+{
+    let mut steps = Vec::new(alloc);
+    let mut never = NeverStop;
+    match reduce(alloc, sum, &mut steps, &mut never)? {
+        Ended::Normal(sum) => Ok(Found {
+            steps,
+            verdict: shown(sum),
+        }),
+        Ended::Over { passed, sum } => {
+            let evidence = evidence(alloc, passed, NOWHERE, sum, None)?;
+            Ok(Found {
+                steps,
+                verdict: Verdict::Passed(evidence),
+            })
+        }
+        Ended::Stopped => unreachable!(),
+    }
+}
+
+// What comparing two sums finds.
+fn overlapped(
+    alloc: Global,
+    first: &Arc<PathSum>,
+    second: &Arc<PathSum>,
+) -> Result<Found, AllocError>
+    requires { Comparable first.now.value second.now.value }
+    ensures { IfOk result (λ f. Overlaps first.now.value second.now.value f.steps.items (finding_of f.verdict)) }
+{
+    match overlap(alloc, first, second) {
+        Ok(sum) => reduced(alloc, sum),
+        Err(JoinFault::Passed(passed)) => {
+            let second = Arc::try_clone(second)?;
+            let first = Arc::try_clone(first)?;
+            let evidence = shared_evidence(passed, NOWHERE, first, Some(second));
+            Ok(Found {
+                steps: Vec::new(alloc),
+                verdict: Verdict::Passed(evidence),
+            })
+        }
+        Err(JoinFault::Memory) => Err(AllocError),
+    }
+}
+
+// The same evidence, with its sums shared.
+fn same_evidence(evidence: &Evidence) -> Result<Evidence, AllocError>
+    ensures { IfOk result (λ e. overrun_of e ≡ overrun_of evidence.now) }
+{
+    let second = match &evidence.second {
+        Some(second) => Some(Arc::try_clone(second)?),
+        None => None,
+    };
+    Ok(Evidence {
+        passed: evidence.passed,
+        from: evidence.from,
+        middle: evidence.middle,
+        to: evidence.to,
+        first: Arc::try_clone(&evidence.first)?,
+        second,
+    })
+}
+
+// A limit that is passed, found by no step.
+fn limit(alloc: Global, evidence: &Evidence) -> Result<Found, AllocError>
+    ensures { IfOk result (λ f. (f.steps.items ≡ []) × (finding_of f.verdict ≡ limit_of (overrun_of evidence.now))) }
+{
+    let evidence = same_evidence(evidence)?;
+    Ok(Found {
+        steps: Vec::new(alloc),
+        verdict: Verdict::Passed(evidence),
+    })
+}
+
+// What comparing two records finds.
+fn find_difference(alloc: Global, first: &Record, second: &Record) -> Result<Found, AllocError>
+    requires { first.now.n ≡ second.now.n }
+    ensures { IfOk result (λ f. Compares (outcome_of first.now) (outcome_of second.now) f.steps.items (finding_of f.verdict)) }
+{
+    let _first = first.items.as_slice();
+    let _second = second.items.as_slice();
+    match &first.body {
+        Body::Passed(evidence) => limit(alloc, evidence),
+        Body::Sum(before) => match &second.body {
+            Body::Passed(evidence) => limit(alloc, evidence),
+            Body::Sum(behind) => overlapped(alloc, before, behind),
+        },
+    }
+}
+
+/// Compares two records on the same qubits.
+///
+/// Where a record has a limit passed, the verdict is that of the first such record. Else the overlap
+/// of the two sums is reduced. Where no path variable is left, they are one map exactly where the
+/// overlap has come to 1, and else differ at the first point. Where one is left, they differ at the
+/// least point of the least variable that vanishes; where none does, the verdict is the sum that is
+/// left. A limit that is passed on the way is told. `AllocError` is want of memory.
+pub fn compare(
+    alloc: Global,
+    first: &Arc<Record>,
+    second: &Arc<Record>,
+) -> Result<Judged, AllocError>
+    requires same { first.now.value.n ≡ second.now.value.n }
+    ensures records { IfOk result (λ j. (j.first.value ≡ first.now.value) × (j.second.value ≡ second.now.value)) }
+    ensures found { IfOk result (λ j. Compares (outcome_of first.now.value) (outcome_of second.now.value) j.steps (finding_of j.verdict)) }
+{
+    let found = find_difference(alloc, first, second)?;
+    let first = Arc::try_clone(first)?;
+    let second = Arc::try_clone(second)?;
+    Ok(Judged {
+        first,
+        second,
+        steps: Steps::from_vec(found.steps),
+        verdict: found.verdict,
+    })
+}
+
+// The record of a segment that is filled without asking whether to stop.
+fn filled(alloc: Global, n: u32, items: &Arc<Items>) -> Result<Record, AllocError>
+    requires width { (1 ≤ n) × (n ≤ 64) }
+    requires run { CanRun n items.now.value }
+    ensures { IfOk result (λ r. IsRecordOf n items.now.value (Fills n (run_of items.now.value)) r) }
+{
+    let mut never = NeverStop;
+    match fill_items(alloc, n, items, &mut never)? {
+        Filled::Done(record) => Ok(record),
+        Filled::Stopped => unreachable!(),
+    }
+}
+
+/// Whether two segments on `n` qubits are one linear map: each is filled as one run of items, and the
+/// two records are compared. `AllocError` is want of memory.
+///
+/// Condition: 1 to 64 qubits, at most 65,536 items each, all on these qubits.
+pub fn same_gates(
+    alloc: Global,
+    first: &Arc<Items>,
+    second: &Arc<Items>,
+    n: u32,
+) -> Result<Judged, AllocError>
+    requires width { (1 ≤ n) × (n ≤ 64) }
+    requires first { CanRun n first.now.value }
+    requires second { CanRun n second.now.value }
+    ensures decided { IfOk result (λ j. Decides n (run_of first.now.value) (run_of second.now.value) j.steps (finding_of j.verdict)) }
+    ensures first_record { IfOk result (λ j. IsRecordOf n first.now.value (Fills n (run_of first.now.value)) j.first.value) }
+    ensures second_record { IfOk result (λ j. IsRecordOf n second.now.value (Fills n (run_of second.now.value)) j.second.value) }
+{
+    let before = Arc::new(alloc, filled(alloc, n, first)?)?;
+    let behind = Arc::new(alloc, filled(alloc, n, second)?)?;
+    compare(alloc, &before, &behind)
+}

@@ -1,0 +1,19 @@
+//! Normal sums of segments, and whether two segments are one linear map.
+#![tactic(auto)]
+
+mod children;
+pub mod comparing;
+mod evidences;
+pub mod filled;
+pub mod filling;
+mod parts;
+mod prims;
+mod reduce;
+mod takings;
+
+pub use comparing::{compare, same_gates};
+pub use filled::Filled;
+pub use filling::fill;
+
+#[cfg(test)]
+mod tests;

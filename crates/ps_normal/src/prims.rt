@@ -1,0 +1,105 @@
+//! The sum of one prim, and two sums one after the other, reduced.
+
+ghost use Rattle.std.specs.Prelude.{◌≡◌, ℕ, ◌<◌, ◌≤◌, ◌+◌, List, IfOk};
+ghost use Rattle.ps_prim.specs.declared.prims.Primitive.{Primitive as Prim};
+ghost use Rattle.ps_prim.specs.Maps.{IsWithin};
+ghost use Rattle.ps_sum.specs.declared.sums.PathSum.{PathSum};
+ghost use Rattle.ps_rules.specs.declared.steps.Move.TheVariants.{Leaf, Join};
+ghost use Rattle.ps_join.specs.Joining.{IsLeafOf, IsJoinOf, JoinFits};
+ghost use Rattle.ps_reach.specs.Fillings.{Leaves, Joins};
+ghost use Rattle.ps_normal.specs.Ends.{IsEnded, HasRisen};
+ghost use Rattle.ps_normal.specs.Pieces.{PartIs, PartRose, Usable, UsablePart, Joinable};
+
+use super::evidences::{evidence, push_moves};
+use super::parts::{Ended, Part, Places};
+use super::reduce::reduce;
+use ps_io::Stop;
+use ps_join::{OntoFault, join_onto, leaf};
+use ps_prim::Prim;
+use ps_rules::{Move, Step};
+use ps_sum::PathSum;
+use std::alloc::{AllocError, Global};
+
+/// What a sum that was reduced comes to, with the move that made it.
+pub fn ended_part(
+    alloc: Global,
+    places: Places,
+    first: Move,
+    ended: Ended,
+    moves: &mut Vec<Move>,
+    steps: &[Step],
+) -> Result<Part, AllocError>
+    ensures leaf { IfOk result (λ p. (n : ℕ) (g : Prim) (S : PathSum) → first ≡ Leaf places.from → places.middle ≡ places.from → places.to ≡ places.from + 1 → IsLeafOf n g S → IsEnded S steps.now ended → PartIs (Leaves n places.from g moves.old.items) moves.new.items p) }
+    ensures join { IfOk result (λ p. (S1 S2 S : PathSum) → first ≡ Join → JoinFits S1 S2 → IsJoinOf S1 S2 S → IsEnded S steps.now ended → PartIs (Joins places.from places.middle places.to S1 S2 moves.old.items) moves.new.items p) }
+    ensures usable { IfOk result (λ p. (n count : ℕ) (S : PathSum) → Usable n count S → IsEnded S steps.now ended → UsablePart n count p) }
+    ensures stopped { IfOk result (λ p. (old new : ℕ) → HasRisen old new ended → PartRose old new p) }
+{
+    match ended {
+        Ended::Normal(sum) => {
+            push_moves(moves, first, steps)?;
+            Ok(Part::Sum(sum))
+        }
+        Ended::Over { passed, sum } => {
+            push_moves(moves, first, steps)?;
+            Ok(Part::Over(evidence(alloc, passed, places, sum, None)?))
+        }
+        Ended::Stopped => Ok(Part::Stopped),
+    }
+}
+
+/// The leaf of the prim at a place, reduced.
+pub fn leaf_part<S: Stop>(
+    alloc: Global,
+    n: u32,
+    prim: &Prim,
+    place: u32,
+    moves: &mut Vec<Move>,
+    steps: &mut Vec<Step>,
+    stop: &mut S,
+) -> Result<Part, AllocError>
+    requires width { (1 ≤ n) × (n ≤ 64) }
+    requires within { IsWithin n prim.now }
+    requires few { place < 268435456 }
+    ensures part { IfOk result (λ p. PartIs (Leaves n place prim.now moves.old.items) moves.new.items p) }
+    ensures usable { IfOk result (λ p. UsablePart n 1 p) }
+    ensures stopped { IfOk result (λ p. PartRose (S.yeses stop.old) (S.yeses stop.new) p) }
+    ensures never_falls { S.yeses stop.old ≤ S.yeses stop.new }
+{
+    let sum = leaf(alloc, prim, n)?;
+    let ended = reduce(alloc, sum, steps, stop)?;
+    let places = Places {
+        from: place,
+        middle: place,
+        to: place + 1,
+    };
+    ended_part(alloc, places, Move::Leaf(place), ended, moves, steps)
+}
+
+/// The second sum behind the first, which stand for so many prims together, reduced.
+pub fn join_part<S: Stop>(
+    alloc: Global,
+    places: Places,
+    first: PathSum,
+    second: PathSum,
+    moves: &mut Vec<Move>,
+    steps: &mut Vec<Step>,
+    stop: &mut S,
+) -> Result<Part, AllocError>
+    requires ready { Joinable first second }
+    ensures part { IfOk result (λ p. PartIs (Joins places.from places.middle places.to first second moves.old.items) moves.new.items p) }
+    ensures usable { IfOk result (λ p. (n a b : ℕ) → Usable n a first → Usable n b second → UsablePart n (a + b) p) }
+    ensures stopped { IfOk result (λ p. PartRose (S.yeses stop.old) (S.yeses stop.new) p) }
+    ensures never_falls { S.yeses stop.old ≤ S.yeses stop.new }
+{
+    match join_onto(alloc, first, &second) {
+        Ok(sum) => {
+            let ended = reduce(alloc, sum, steps, stop)?;
+            ended_part(alloc, places, Move::Join, ended, moves, steps)
+        }
+        Err(OntoFault::Passed { passed, first }) => {
+            let evidence = evidence(alloc, passed, places, first, Some(second))?;
+            Ok(Part::Over(evidence))
+        }
+        Err(OntoFault::Memory) => Err(AllocError),
+    }
+}

@@ -1,0 +1,118 @@
+//! The prims of a segment, one behind the other.
+
+ghost use Rattle.std.specs.Prelude.{◌≡◌, ℕ, ◌<◌, ◌≤◌, ◌+◌, ◌++◌, ◌∷◌, [], List, length, IfOk};
+ghost use Rattle.ps_prim.specs.declared.prims.Primitive.{Primitive as Prim};
+ghost use Rattle.ps_prim.specs.Maps.{IsWithin, AllWithin};
+ghost use Rattle.ps_reach.specs.Runs.{run_of};
+ghost use Rattle.ps_normal.specs.Pieces.{PartRose, Usable, UsablePart, IsProgress, IsTaken};
+ghost use Rattle.ps_normal.specs.Takings.{Takes, UsableHeld, UsableTaken, TakenRose};
+
+use super::parts::{Part, Places, Taken};
+use super::prims::{join_part, leaf_part};
+use ps_io::Stop;
+use ps_prim::Prim;
+use ps_reach::Items;
+use ps_rules::{Move, Step};
+use ps_sum::PathSum;
+use std::alloc::{AllocError, Global};
+
+// The prim at a place behind the sum of those before it, or the first prim.
+fn take_prim<S: Stop>(
+    alloc: Global,
+    n: u32,
+    prim: &Prim,
+    held: Option<PathSum>,
+    place: u32,
+    moves: &mut Vec<Move>,
+    steps: &mut Vec<Step>,
+    stop: &mut S,
+) -> Result<Part, AllocError>
+    requires width { (1 ≤ n) × (n ≤ 64) }
+    requires within { IsWithin n prim.now }
+    requires few { place < 268435456 }
+    requires usable { UsableHeld n place held }
+    ensures taken { IfOk result (λ p. (A more : List Prim) → IsProgress n A (prim.now ∷ more) held place moves.old.items → IsTaken n A more (place + 1) moves.new.items p) }
+    ensures usable { IfOk result (λ p. UsablePart n (place + 1) p) }
+    ensures stopped { IfOk result (λ p. PartRose (S.yeses stop.old) (S.yeses stop.new) p) }
+    ensures never_falls { S.yeses stop.old ≤ S.yeses stop.new }
+{
+    match leaf_part(alloc, n, prim, place, moves, steps, stop)? {
+        Part::Sum(leaf) => match held {
+            None => Ok(Part::Sum(leaf)),
+            Some(sum) => {
+                let places = Places {
+                    from: 0,
+                    middle: place,
+                    to: place + 1,
+                };
+                join_part(alloc, places, sum, leaf, moves, steps, stop)
+            }
+        },
+        Part::Over(evidence) => Ok(Part::Over(evidence)),
+        Part::Stopped => Ok(Part::Stopped),
+    }
+}
+
+// The prims, of which the first stands at a place, behind the sum of those before.
+fn take_prims<S: Stop>(
+    alloc: Global,
+    n: u32,
+    prims: &[Prim],
+    held: Option<PathSum>,
+    place: u32,
+    moves: &mut Vec<Move>,
+    steps: &mut Vec<Step>,
+    stop: &mut S,
+) -> Result<Taken, AllocError>
+    requires width { (1 ≤ n) × (n ≤ 64) }
+    requires within { AllWithin n prims.now }
+    requires few { place + length prims.now ≤ 268435456 }
+    requires usable { UsableHeld n place held }
+    ensures taken { IfOk result (λ t. (A more : List Prim) → IsProgress n A (prims.now ++ more) held place moves.old.items → Takes n A more (place + length prims.now) moves.new.items t) }
+    ensures usable { IfOk result (λ t. UsableTaken n (place + length prims.now) t) }
+    ensures stopped { IfOk result (λ t. TakenRose (S.yeses stop.old) (S.yeses stop.new) t) }
+    ensures never_falls { S.yeses stop.old ≤ S.yeses stop.new }
+{
+    let mut held = held;
+    let mut at = place;
+    'prims: for prim in prims {
+        match take_prim(alloc, n, prim, held, at, moves, steps, stop)? {
+            Part::Sum(sum) => held = Some(sum),
+            Part::Over(evidence) => return Ok(Taken::Over(evidence)),
+            Part::Stopped => return Ok(Taken::Stopped),
+        }
+        at += 1;
+    }
+    Ok(Taken::Going(held))
+}
+
+/// The prims of all items, from the first on.
+pub fn take_items<S: Stop>(
+    alloc: Global,
+    n: u32,
+    items: &Items,
+    moves: &mut Vec<Move>,
+    steps: &mut Vec<Step>,
+    stop: &mut S,
+) -> Result<Taken, AllocError>
+    requires width { (1 ≤ n) × (n ≤ 64) }
+    requires within { AllWithin n (run_of items.now) }
+    requires few { length items.now ≤ 65536 }
+    requires fresh { moves.old.items ≡ [] }
+    ensures taken { IfOk result (λ t. Takes n (run_of items.now) [] (length (run_of items.now)) moves.new.items t) }
+    ensures usable { IfOk result (λ t. UsableTaken n (length (run_of items.now)) t) }
+    ensures stopped { IfOk result (λ t. TakenRose (S.yeses stop.old) (S.yeses stop.new) t) }
+{
+    let mut held = None;
+    let mut at = 0;
+    'items: for item in items.as_slice() {
+        let prims = item.prims.as_slice();
+        match take_prims(alloc, n, prims, held, at, moves, steps, stop)? {
+            Taken::Going(sum) => held = sum,
+            Taken::Over(evidence) => return Ok(Taken::Over(evidence)),
+            Taken::Stopped => return Ok(Taken::Stopped),
+        }
+        at += prims.len() as u32;
+    }
+    Ok(Taken::Going(held))
+}

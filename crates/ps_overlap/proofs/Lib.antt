@@ -1,0 +1,10 @@
+pub mod Overlapped
+pub mod Dividing
+pub mod Quotients
+pub mod LeastPoints
+pub mod Moved
+pub mod Paired
+pub mod PhaseOf
+pub mod Halves
+pub mod FirstTerms
+pub mod Made

@@ -1,0 +1,3 @@
+pub mod Overlapping
+pub mod Faults
+pub mod Terms

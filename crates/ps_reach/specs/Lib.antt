@@ -1,0 +1,10 @@
+pub mod Runs
+pub mod Reductions
+pub mod Normals
+pub mod Overruns
+pub mod Replays
+pub mod Fillings
+pub mod Findings
+pub mod Parts
+pub mod Judging
+pub mod Sizes

@@ -1,0 +1,14 @@
+pub mod Firsts
+pub mod Limits
+pub mod Splits
+pub mod Keeps
+pub mod Only
+pub mod Seeing
+pub mod Deciding
+pub mod Windows
+pub mod Earliest
+pub mod Closes
+pub mod Mapped
+pub mod Quotients
+pub mod Takes
+pub mod Replaces

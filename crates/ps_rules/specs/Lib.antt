@@ -1,0 +1,5 @@
+pub mod Terms
+pub mod Rules
+pub mod Sights
+pub mod Closing
+pub mod Plans

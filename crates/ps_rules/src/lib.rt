@@ -1,0 +1,24 @@
+//! The three rewrite steps of path sums: which step comes first, and the sum after a step.
+#![tactic(auto)]
+
+pub mod applying;
+mod checking;
+mod choosing;
+mod dividing;
+pub mod faults;
+pub mod finding;
+mod looking;
+mod measuring;
+mod planning;
+mod settling;
+mod sights;
+pub mod steps;
+mod taking;
+
+pub use applying::{apply, rewrite};
+pub use faults::{ApplyFault, Refused};
+pub use finding::find;
+pub use steps::{Move, Step};
+
+#[cfg(test)]
+mod tests;
