@@ -7,6 +7,7 @@ ghost use Rattle.ps_join.specs.Faults.{IsJoinFault};
 ghost use Rattle.ps_join.specs.OntoFaults.{IsOntoFault};
 ghost use Rattle.ps_join.specs.Parts.{IsParts, OutputParts, Placed};
 
+use super::adding::added;
 use super::naming::Names;
 use super::onto_fault::OntoFault;
 use super::replacing::{replaced_outputs, replaced_phase};
@@ -95,11 +96,12 @@ fn replaced_parts(alloc: Global, first: &PathSum, second: &PathSum) -> Result<Pa
     }
     let names = Names::of_sums(first, second);
     let outs = first.outs.polys();
+    let polys = second.outs.polys();
     let phase = match replaced_phase(alloc, &names, &second.phase, outs) {
         Ok(phase) => phase,
         Err(fault) => return Err(fault),
     };
-    match replaced_outputs(alloc, &names, second.outs.polys(), outs) {
+    match replaced_outputs(alloc, &names, polys, outs) {
         Ok(outs) => Ok(Parts { phase, outs }),
         Err(fault) => Err(fault),
     }
@@ -127,8 +129,7 @@ fn merged(first: PathSum, second: &PathSum, parts: Parts) -> Result<PathSum, All
         phase: behind,
         outs: changed,
     } = parts;
-    let mut sum = phase;
-    sum.add_to(&behind)?;
+    let sum = added(phase, &behind)?;
     let outs = placed(outs.into_polys(), changed);
     Ok(PathSum {
         n,

@@ -1,0 +1,9 @@
+use Rattle.std.proofs.Common.{◌+◌}
+use Rattle.ps_join.specs.Weaving.{Weaving}
+use Rattle.ps_join.proofs.adding.weave.Given as goal
+
+abbrev pub decreases-loop-place : goal.decreases-loop-place
+decreases-loop-place l = l.place.left + l.place.more
+
+abbrev pub invariant-loop-place : goal.invariant-loop-place
+invariant-loop-place l = Weaving l.fn.terms.items l.others l.place.left l.place.more l.place.from l.terms.items
