@@ -261,7 +261,7 @@ closing_step i w old at end t ts ts' g h e f s =
     let apart : at ≡ w + (at - w) = omega (arith, s.behind) in
     let next : at - w + 1 ≡ at + 1 - w = omega (arith, s.behind) in
     let read : t ≡ get_or (drop w old) (at - w) t =
-        e ∙ zeroth ts at t ∙ ap (λ (us : List Term). get_or us 0 t) s.rest ∙ sym (zeroth old at t) ∙ ap (λ k. get_or old k t) apart ∙ sym (get_or-drop w old (at - w) t) in record {
+    e ∙ zeroth ts at t ∙ ap (λ (us : List Term). get_or us 0 t) s.rest ∙ sym (zeroth old at t) ∙ ap (λ k. get_or old k t) apart ∙ sym (get_or-drop w old (at - w) t) in record {
       wide = ap length f ∙ length-set ts end t ∙ s.wide;
       end_is = omega (arith, s.end_is);
       behind = omega (arith, s.behind);
@@ -351,7 +351,7 @@ block_moved xs ys i j w p m w' j' y ts vs fx fy hp em ew ej ey et above s =
     let wide : length (take m (drop p xs)) ≡ m = length-take-le m (drop p xs) (omega (arith, length-drop p xs, s.inside_first)) in
     let at : (d : Term) (k : ℕ) → k < m → get_or (take m (drop p xs)) k d ≡ get_or xs (p + k) d = λ d k h. get_or-take m (drop p xs) k d h ∙ get_or-drop p xs k d in
     let order : (d : Term) (n : ℕ) (u : List ℕ) → ((k : ℕ) → p ≤ k → k < i → mono_cmp u (get_or xs k d).mono ≡ Less) → TermBefore u (drop w ts) → TermBefore u (take m (drop p xs) ++ drop w ts) = λ d n u f g.
-        append_before u (take m (drop p xs)) (drop w ts) (before_part u (take m (drop p xs)) d (λ k h. ap (λ (t : Term). mono_cmp u t.mono) (at d k (omega (arith, wide))) ∙ f (p + k) (omega arith) (omega (arith, wide)))) g in record {
+    append_before u (take m (drop p xs)) (drop w ts) (before_part u (take m (drop p xs)) d (λ k h. ap (λ (t : Term). mono_cmp u t.mono) (at d k (omega (arith, wide))) ∙ f (p + k) (omega arith) (omega (arith, wide)))) g in record {
       inside_first = omega (arith, s.inside_first);
       inside_second = s.inside_second;
       room = omega (arith, s.room);
@@ -448,7 +448,7 @@ pub step_to : (xs ys : List Term) (left more from at l1 m1 f1 l2 m2 f2 : ℕ) (y
 step_to xs ys left more from at l1 m1 f1 l2 m2 f2 y ts ds vs us pos ed hp here e1 g1 h1 ev met fx fy ey s =
     let few : at + 1 ≤ left = narrower left ds (at + 1) (omega arith) in
     let block : Weaving xs ys l1 m1 f1 vs = subst (λ (k : ℕ). Weaving xs ys k m1 f1 vs) (sym e1) (subst (λ (k : ℕ). Weaving xs ys (at + 1) k f1 vs) (sym g1)
-        (woven_to xs ys left more from at (left - (at + 1)) f1 (more - 1) y ts vs fx fy (omega arith) (omega arith) (omega arith) (omega arith) ey (subst (λ (r : List Term). IsPlace y.mono (take left r) at) ed here) ev s)) in
+    (woven_to xs ys left more from at (left - (at + 1)) f1 (more - 1) y ts vs fx fy (omega arith) (omega arith) (omega arith) (omega arith) ey (subst (λ (r : List Term). IsPlace y.mono (take left r) at) ed here) ev s)) in
     let r = met xs ys fx fy (λ d. ey d ∙ ap (λ k. get_or ys (k - 1) d) (sym g1)) block in (r.0, omega (arith, r.1), omega (arith, r.2))
 
 pub same_there : (left more from at l1 m1 f1 : ℕ) (u : List ℕ) (ts ds vs : List Term) → 0 < more → left + more ≤ from → from ≤ length ts → ds ≡ ts → at < length (take left ds) → IsPlace u (take left ds) at → l1 ≡ at + 1 → f1 + left ≡ from + (at + 1) → vs ≡ paste ts f1 (drop (at + 1) ts) (left - (at + 1))
