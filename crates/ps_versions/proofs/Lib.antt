@@ -1,1 +1,5 @@
 pub mod Lookups
+pub mod Counting
+pub mod Weights
+pub mod Heights
+pub mod Growths

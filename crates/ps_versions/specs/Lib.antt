@@ -4,3 +4,6 @@ pub mod Lives
 pub mod Records
 pub mod Told
 pub mod Views
+pub mod Opened
+pub mod Walks
+pub mod Questions

@@ -4,7 +4,10 @@
 pub mod data;
 pub mod kept;
 pub mod lives;
+pub mod opening;
+pub mod questions;
 pub mod versions;
+pub(crate) mod walks;
 
 pub use data::{About, State};
 pub use kept::Kept;
