@@ -3,3 +3,4 @@ pub mod Counting
 pub mod Weights
 pub mod Heights
 pub mod Growths
+pub mod Gaining

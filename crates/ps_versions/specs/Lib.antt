@@ -7,3 +7,5 @@ pub mod Views
 pub mod Opened
 pub mod Walks
 pub mod Questions
+pub mod Spliced
+pub mod Gains

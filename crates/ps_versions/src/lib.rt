@@ -6,6 +6,7 @@ pub mod kept;
 pub mod lives;
 pub mod opening;
 pub mod questions;
+pub mod splicing;
 pub mod versions;
 pub(crate) mod walks;
 
