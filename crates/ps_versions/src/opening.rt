@@ -77,12 +77,7 @@ fn make_room<R>(
 }
 
 /// One circuit more, for which there is room.
-fn add_course(
-    names: &mut IndexSet<Name>,
-    courses: &mut Vec<Course>,
-    name: Name,
-    course: Course,
-)
+fn add_course(names: &mut IndexSet<Name>, courses: &mut Vec<Course>, name: Name, course: Course)
     requires new { contains (pointwise nat_eq) names.old name ≡ false }
     requires name { 0 < spare names.old }
     requires course { vec_len courses.old < vec_capacity courses.old }

@@ -123,9 +123,7 @@ impl<R: Kept> Versions<R> {
         }
         match self.look(node) {
             Seen::Leaf(_) => false,
-            Seen::Branch(left, right) => {
-                self.any_passed(left) || self.any_passed(right)
-            }
+            Seen::Branch(left, right) => { self.any_passed(left) || self.any_passed(right) }
         }
     }
 
@@ -151,9 +149,7 @@ impl<R: Kept> Versions<R> {
         }
         match self.look(node) {
             Seen::Leaf(_) => true,
-            Seen::Branch(left, right) => {
-                self.has_sum(left) && self.has_sum(right)
-            }
+            Seen::Branch(left, right) => { self.has_sum(left) && self.has_sum(right) }
         }
     }
 

@@ -90,9 +90,7 @@ impl<R> Versions<R> {
         let _ = self.height_below(&root);
         // no tree is higher than 32
         let more = 64 * 33 + 2 * items.len();
-        let Ok(count) =
-            make_place(&mut self.courses, index, &mut self.records, more)
-        else {
+        let Ok(count) = make_place(&mut self.courses, index, &mut self.records, more) else {
             return Err(AllocError);
         };
         let Ok(next) = self.nodes.splice(root, from, to, items) else {
@@ -128,10 +126,7 @@ fn make_place<R>(
 }
 
 /// Room for one version more of a circuit, and the number of its versions.
-fn reserve_version(
-    courses: &mut Vec<Course>,
-    index: usize,
-) -> Result<usize, AllocError>
+fn reserve_version(courses: &mut Vec<Course>, index: usize) -> Result<usize, AllocError>
     requires { index < vec_len courses.old }
     ensures courses { Gains courses.old.items courses.new.items index [] }
     ensures count { IfOk result (λ n. HasCount courses.old.items index n) }
