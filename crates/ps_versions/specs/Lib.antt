@@ -4,3 +4,8 @@ pub mod Lives
 pub mod Records
 pub mod Told
 pub mod Views
+pub mod Opened
+pub mod Walks
+pub mod Questions
+pub mod Spliced
+pub mod Gains

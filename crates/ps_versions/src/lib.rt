@@ -4,7 +4,11 @@
 pub mod data;
 pub mod kept;
 pub mod lives;
+pub mod opening;
+pub mod questions;
+pub mod splicing;
 pub mod versions;
+pub(crate) mod walks;
 
 pub use data::{About, State};
 pub use kept::Kept;

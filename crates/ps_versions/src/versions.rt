@@ -18,10 +18,10 @@ use std::marker::Model;
 /// Circuits by name in order of opening, each with its versions, and what the segments of their trees keep.
 #[derive(Drop)]
 pub struct Versions<R> {
-    names: IndexSet<Name>,
-    courses: Vec<Course>,
-    nodes: Nodes,
-    records: Vec<Option<Stored<R>>>,
+    pub(crate) names: IndexSet<Name>,
+    pub(crate) courses: Vec<Course>,
+    pub(crate) nodes: Nodes,
+    pub(crate) records: Vec<Option<Stored<R>>>,
 }
 
 impl<R> Model for Versions<R> {
@@ -54,7 +54,7 @@ impl<R> Versions<R> {
     }
 
     /// Where the circuit of a name stands.
-    fn place_of(&self, name: &Name) -> Option<usize>
+    pub(crate) fn place_of(&self, name: &Name) -> Option<usize>
         ensures place { result ≡ place_of self.now.circuits name.now }
         ensures found { MatchOption result (circuit_at self.now.circuits name.now ≡ None) (λ i. (i < length self.now.circuits) × (circuit_at self.now.circuits name.now ≡ slice_get self.now.circuits i)) }
     {

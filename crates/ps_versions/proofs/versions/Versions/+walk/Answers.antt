@@ -1,0 +1,19 @@
+use Rattle.std.proofs.Common.{◌≡◌, Some, sym, ap, ◌∙◌, ℕ}
+use Rattle.seg_tree.specs.Trees.{Tree}
+use Rattle.seg_tree.specs.Table.{tree}
+use Rattle.ps_versions.specs.Questions.{segments, is_ready}
+use Rattle.ps_versions.specs.Walks.{visited, walked, is_found}
+use Rattle.ps_versions.proofs.Counting.{walk_over, walk_branch}
+use Rattle.ps_versions.proofs.versions.Versions.+walk.Goals as goal
+
+pub returns-then-is_found : goal.returns-then-is_found
+returns-then-is_found g t c = walk_over (is_ready c.args.self.now.kept g.R.Kept.passed) c.args.walk (segments (tree c.args.self.now.nodes c.args.node)) (sym c.is_found.ensures ∙ c.if-is_found.true)
+
+pub returns-in-Branch : goal.returns-in-Branch
+returns-in-Branch g t c =
+    let ts = c.args.self.now.nodes in
+    let ready = is_ready c.args.self.now.kept g.R.Kept.passed in
+    let k = c.args.node in
+    c.visit-in-Branch.ensures
+    ∙ ap (λ w. visited ready w (tree ts k)) (c.walk-between.ensures ∙ ap (λ w. walked ready w (segments (tree ts c.in-Branch.right))) c.walk-before.ensures)
+    ∙ sym (walk_branch ready c.args.walk (tree ts k) (Some k) (tree ts c.in-Branch.left) (tree ts c.in-Branch.right) c.in-Branch.ensures.0)

@@ -1,0 +1,95 @@
+-- What is asked of a version: its segments, how many keep nothing, whether it is settled, and which segments are ready.
+use Rattle.std.specs.Prelude.{ℕ, ◌≡◌, ◌<◌, Bool, true, false, cond, ◌&&◌, ◌||◌, not, is_none, eqb, List, [], ◌∷◌, ◌++◌, Option, Some, None}
+use Rattle.std.specs.List.{list_any, count_by}
+use Rattle.seg_tree.specs.Trees.{Tree, leaf, branch, name_of}
+use Rattle.seg_tree.specs.Table.{root_tree}
+use Rattle.ps_versions.specs.Held.{Held, Version}
+use Rattle.ps_versions.specs.Lookup.{root_of}
+use Rattle.ps_versions.specs.Records.{record_at}
+use Rattle.ps_versions.specs.Walks.{has_name}
+
+-- the segments of a tree, the sides of each before it
+abbrev pub segments : Tree ℕ → List (Tree ℕ)
+segments (leaf name items) = leaf name items ∷ []
+segments (branch name left right) = segments left ++ (segments right ++ branch name left right ∷ [])
+
+abbrev pub segments_maybe : Option (Tree ℕ) → List (Tree ℕ)
+segments_maybe None = []
+segments_maybe (Some t) = segments t
+
+-- whether what is kept has a sum, and whether it passed a limit
+abbrev pub is_sum : {R : Type 0} → (R → Bool) → Option (ℕ × R) → Bool
+is_sum passed None = false
+is_sum passed (Some r) = not (passed r.1)
+
+abbrev pub is_passed : {R : Type 0} → (R → Bool) → Option (ℕ × R) → Bool
+is_passed passed None = false
+is_passed passed (Some r) = passed r.1
+
+module _ {R : Type 0} (kept : List (Option (ℕ × R))) where
+  -- what the segment keeps
+  abbrev pub kept_by : Option ℕ → Option (ℕ × R)
+  kept_by None = None
+  kept_by (Some k) = record_at kept k
+
+  -- the segment keeps nothing; a tree without a name is no segment
+  abbrev pub lacks_by : Option ℕ → Bool
+  lacks_by None = false
+  lacks_by (Some k) = is_none (record_at kept k)
+
+  abbrev pub lacks : Tree ℕ → Bool
+  lacks t = lacks_by (name_of t)
+
+  -- how many segments keep nothing
+  abbrev pub missing_in : Option (Tree ℕ) → ℕ
+  missing_in t = count_by lacks (segments_maybe t)
+
+  module _ (passed : R → Bool) where
+    abbrev pub has_sum : Tree ℕ → Bool
+    has_sum t = is_sum passed (kept_by (name_of t))
+
+    abbrev pub has_passed : Tree ℕ → Bool
+    has_passed t = is_passed passed (kept_by (name_of t))
+
+    -- there is no tree, or its root has a sum, or one of its segments passed a limit
+    abbrev pub settled_in : Option (Tree ℕ) → Bool
+    settled_in None = true
+    settled_in (Some t) = has_sum t || list_any has_passed (segments t)
+
+    -- both sides of a branch have sums
+    abbrev pub sides_have_sums : Tree ℕ → Bool
+    sides_have_sums (leaf name items) = true
+    sides_have_sums (branch name left right) = has_sum left && has_sum right
+
+    -- it keeps nothing, and its sides, where it has them, have sums
+    abbrev pub is_ready : Tree ℕ → Bool
+    is_ready t = lacks t && sides_have_sums t
+
+-- the name of the first segment that is ready
+abbrev pub first_of : Bool → Option ℕ → Option ℕ → Option ℕ
+first_of true (Some k) rest = Some k
+first_of true None rest = rest
+first_of false name rest = rest
+
+abbrev pub first_ready : (Tree ℕ → Bool) → List (Tree ℕ) → Option ℕ
+first_ready ready [] = None
+first_ready ready (t ∷ ts) = first_of (ready t) (name_of t) (first_ready ready ts)
+
+-- the segments behind one, or all of them
+abbrev pub behind : Option ℕ → List (Tree ℕ) → List (Tree ℕ)
+behind None ts = ts
+behind (Some k) [] = []
+behind (Some k) (t ∷ ts) = cond (has_name k (name_of t)) ts (behind (Some k) ts)
+
+module _ {R : Type 0} where
+  -- the missing number of a version, where it is there
+  abbrev pub missing : Held R → Option Version → Option ℕ
+  missing h None = None
+  missing h (Some v) = Some (missing_in h.kept (root_tree h.nodes v.root))
+
+  abbrev pub is_settled : (R → Bool) → Held R → Option Version → Bool
+  is_settled passed h v = settled_in h.kept passed (root_tree h.nodes (root_of v))
+
+  -- the first segment that is ready in the order of the segments, or the next one behind a segment
+  abbrev pub ready_from : (R → Bool) → Held R → Option Version → Option ℕ → Option ℕ
+  ready_from passed h v after = first_ready (is_ready h.kept passed) (behind after (segments_maybe (root_tree h.nodes (root_of v))))

@@ -1,0 +1,210 @@
+//! What is asked of a version, answered by a walk over the segments of its tree.
+ghost use Rattle.std.specs.Prelude.{◌≡◌, ◌<◌, ◌≤◌, Some, None, IsSome, MatchOption, is_some, length};
+ghost use Rattle.std.specs.List.{list_any};
+ghost use Rattle.seg_tree.specs.Trees.{height};
+ghost use Rattle.seg_tree.specs.Table.{tree, root_tree, IsRoot};
+ghost use Rattle.seg_tree.specs.Seen.{Shows};
+ghost use Rattle.ps_versions.specs.Lookup.{version_at, root_of};
+ghost use Rattle.ps_versions.specs.Records.{record_at};
+ghost use Rattle.ps_versions.specs.Questions.{segments, lacks, has_sum, has_passed, is_ready, missing_in, settled_in, missing, is_settled, ready_from};
+ghost use Rattle.ps_versions.specs.Walks.{visited, walked};
+
+use crate::kept::Kept;
+use crate::versions::Versions;
+use crate::walks::Walk;
+use ps_script::Place;
+use seg_tree::{Node, Seen};
+
+impl<R> Versions<R> {
+    /// What a node is.
+    fn look(&self, node: Node) -> Seen<'_>
+        requires { node < length self.now.nodes }
+        ensures { Shows self.now.nodes node result }
+    {
+        self.nodes().look(node)
+    }
+
+    /// The height of a node's tree, which has few segments.
+    pub(crate) fn height(&self, node: Node) -> u32
+        requires { node < length self.now.nodes }
+        ensures value { result ≡ height (tree self.now.nodes node) }
+        ensures few { length (segments (tree self.now.nodes node)) ≤ 131072 }
+        ensures low { result ≤ 32 }
+    {
+        let nodes = self.nodes();
+        let _ = nodes.len(node);
+        nodes.height(node)
+    }
+
+    /// Whether a node keeps nothing.
+    fn lacks(&self, node: Node) -> bool
+        requires { node < length self.now.nodes }
+        ensures { result ≡ lacks self.now.kept (tree self.now.nodes node) }
+    {
+        let _ = self.look(node);
+        self.kept_at(node).is_none()
+    }
+
+    /// How many segments of a node's tree keep nothing.
+    fn missing_at(&self, node: Node) -> u32
+        requires there { node < length self.now.nodes }
+        requires few { length (segments (tree self.now.nodes node)) ≤ 131072 }
+        ensures { result ≡ missing_in self.now.kept (Some (tree self.now.nodes node)) }
+    {
+        let own = u32::from(self.lacks(node));
+        match self.look(node) {
+            Seen::Leaf(_) => own,
+            Seen::Branch(left, right) => {
+                let below = self.missing_at(left) + self.missing_at(right);
+                below + own
+            }
+        }
+    }
+
+    /// Whether there is a version at a place.
+    fn exists(&self, place: &Place) -> bool
+        ensures { result ≡ is_some (version_at self.now.circuits place.now.name place.now.version) }
+    {
+        match self.circuit_of(place.name) {
+            None => false,
+            Some(about) => place.version > 0 && place.version <= about.latest,
+        }
+    }
+
+    /// How many segments of a version keep nothing, or None exactly where there is no version at the place.
+    pub fn missing(&self, place: &Place) -> Option<u32>
+        ensures { result ≡ missing self.now (version_at self.now.circuits place.now.name place.now.version) }
+    {
+        if !self.exists(place) {
+            return None;
+        }
+        match self.root(place) {
+            None => Some(0),
+            Some(root) => {
+                let _ = self.height(root);
+                Some(self.missing_at(root))
+            }
+        }
+    }
+}
+
+impl<R: Kept> Versions<R> {
+    /// Whether a node keeps a sum.
+    fn has_sum(&self, node: Node) -> bool
+        requires { node < length self.now.nodes }
+        ensures { result ≡ has_sum self.now.kept R.passed (tree self.now.nodes node) }
+    {
+        let _ = self.look(node);
+        match self.kept_at(node) {
+            None => false,
+            Some((_, kept)) => !kept.is_passed(),
+        }
+    }
+
+    /// Whether a node keeps that a limit was passed.
+    fn has_passed(&self, node: Node) -> bool
+        requires { node < length self.now.nodes }
+        ensures { result ≡ has_passed self.now.kept R.passed (tree self.now.nodes node) }
+    {
+        let _ = self.look(node);
+        match self.kept_at(node) {
+            None => false,
+            Some((_, kept)) => kept.is_passed(),
+        }
+    }
+
+    /// Whether a limit was passed at a segment of a node's tree.
+    fn any_passed(&self, node: Node) -> bool
+        requires { node < length self.now.nodes }
+        ensures { result ≡ list_any (has_passed self.now.kept R.passed) (segments (tree self.now.nodes node)) }
+    {
+        if self.has_passed(node) {
+            return true;
+        }
+        match self.look(node) {
+            Seen::Leaf(_) => false,
+            Seen::Branch(left, right) => { self.any_passed(left) || self.any_passed(right) }
+        }
+    }
+
+    /// Whether a version, which exists, is settled: it has no items, or its root keeps a sum, or a limit was passed at
+    /// one of its segments.
+    pub fn settled(&self, place: &Place) -> bool
+        requires { IsSome (version_at self.now.circuits place.now.name place.now.version) }
+        ensures { result ≡ is_settled R.passed self.now (version_at self.now.circuits place.now.name place.now.version) }
+    {
+        match self.root(place) {
+            None => true,
+            Some(root) => self.has_sum(root) || self.any_passed(root),
+        }
+    }
+
+    /// Whether a node keeps nothing, and its sides, where it has them, keep sums.
+    fn is_ready(&self, node: Node) -> bool
+        requires { node < length self.now.nodes }
+        ensures { result ≡ is_ready self.now.kept R.passed (tree self.now.nodes node) }
+    {
+        if !self.lacks(node) {
+            return false;
+        }
+        match self.look(node) {
+            Seen::Leaf(_) => true,
+            Seen::Branch(left, right) => { self.has_sum(left) && self.has_sum(right) }
+        }
+    }
+
+    /// A walk one segment further.
+    fn visit(&self, node: Node, walk: Walk) -> Walk
+        requires { node < length self.now.nodes }
+        ensures { result ≡ visited (is_ready self.now.kept R.passed) walk (tree self.now.nodes node) }
+    {
+        let _ = self.look(node);
+        match walk {
+            Walk::Seeking(after) => {
+                if node.number() == after.number() {
+                    Walk::Looking
+                } else {
+                    Walk::Seeking(after)
+                }
+            }
+            Walk::Looking => {
+                if self.is_ready(node) {
+                    Walk::Found(node)
+                } else {
+                    Walk::Looking
+                }
+            }
+            Walk::Found(found) => Walk::Found(found),
+        }
+    }
+
+    /// A walk over the segments of a node's tree.
+    fn walk(&self, node: Node, walk: Walk) -> Walk
+        requires { node < length self.now.nodes }
+        ensures { result ≡ walked (is_ready self.now.kept R.passed) walk (segments (tree self.now.nodes node)) }
+    {
+        if walk.is_found() {
+            return walk;
+        }
+        match self.look(node) {
+            Seen::Leaf(_) => self.visit(node, walk),
+            Seen::Branch(left, right) => {
+                let before = self.walk(left, walk);
+                let between = self.walk(right, before);
+                self.visit(node, between)
+            }
+        }
+    }
+
+    /// The first segment of a version, which exists, that keeps nothing while its sides, where it has them, keep sums;
+    /// or the next such one behind a segment of that version. The sides of a segment come before it, the left one first.
+    pub fn ready(&self, place: &Place, after: Option<Node>) -> Option<Node>
+        requires { IsSome (version_at self.now.circuits place.now.name place.now.version) }
+        ensures { result ≡ ready_from R.passed self.now (version_at self.now.circuits place.now.name place.now.version) after }
+    {
+        match self.root(place) {
+            None => None,
+            Some(root) => self.walk(root, Walk::start(after)).outcome(),
+        }
+    }
+}
