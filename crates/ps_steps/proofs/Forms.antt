@@ -74,8 +74,8 @@ leaf_b piece digits v e s = record { spelled = ap (λ (r : List ℕ). codes "lea
 first_differs : (a b : ℕ) (x y : List ℕ) → nat_eq a b ≡ false → a ∷ x ≡ b ∷ y → ⊥
 first_differs a b x y h e = let f : a ≡ b = ap (λ l. get_or l 0 0) e in differs a b h f
   where
-  differs : (a b : ℕ) → nat_eq a b ≡ false → a ≡ b → ⊥
-  differs a b h f = grind (arith, nat_tests)
+    differs : (a b : ℕ) → nat_eq a b ≡ false → a ≡ b → ⊥
+    differs a b h f = grind (arith, nat_tests)
 
 leaf_rest : (b : Bool) (i : ℕ) (piece : List ℕ) → line_text (Leaf b i) ≡ piece → piece ≡ codes "leaf " ++ (side_text b ++ (codes " " ++ decimal i))
 unfolding line_text

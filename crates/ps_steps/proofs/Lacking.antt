@@ -22,9 +22,9 @@ pub has_mark : (mark : ℕ) (a rest : List ℕ) → lacks mark (a ++ mark ∷ re
 has_mark mark [] rest = ap (λ t. t && lacks mark rest) (mark_equals mark)
 has_mark mark (b ∷ a) rest = ap (λ t. not (nat_eq b mark) && t) (has_mark mark a rest) ∙ and_no (not (nat_eq b mark))
   where
-  and_no : (t : Bool) → (t && false) ≡ false
-  and_no true = refl
-  and_no false = refl
+    and_no : (t : Bool) → (t && false) ≡ false
+    and_no true = refl
+    and_no false = refl
 
 pub not_both : (b : Bool) → b ≡ true → b ≡ false → ⊥
 not_both b p q = absurd (cc)

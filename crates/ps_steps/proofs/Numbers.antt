@@ -99,9 +99,9 @@ next_spelled bound text (suc i) value digit v b h e r n =
     let s = decimal_step v (omega (arith, n.value)) (omega (arith, n.below)) in
     s ∙ ap (λ (x : ℕ). decimal x ++ ((48 + v % 10) ∷ [])) q ∙ ap (λ (x : ℕ). decimal value ++ (x ∷ [])) (m ∙ e) ∙ ap (λ (l : List ℕ). l ++ (get_or text (suc i) 0 ∷ [])) (r.some (omega arith)) ∙ sym (take_more text (suc i) 0 h)
   where
-  positive : (value i : ℕ) → (value ≡ 0 → suc i ≡ 0) → 1 ≤ value
-  positive zero i f = absurd (omega (arith, f refl))
-  positive (suc value) i f = omega arith
+    positive : (value i : ℕ) → (value ≡ 0 → suc i ≡ 0) → 1 ≤ value
+    positive zero i f = absurd (omega (arith, f refl))
+    positive (suc value) i f = omega arith
 
 pub read_next : (bound : ℕ) (text : List ℕ) (i value digit v : ℕ) → bound ≤ 4294967296 → i < length text → digit ≡ get_or text i 0 → Read bound text i value → IsNext value i digit bound v → Read bound text (i + 1) v
 read_next bound text i value digit v b h e r n = record {
@@ -115,9 +115,9 @@ read_next bound text i value digit v b h e r n = record {
 digit_at : (w : ℕ) (text : List ℕ) (i : ℕ) → w < 2 ^ 64 → decimal w ≡ text → i < length text → is_digit (get_or text i 0) ≡ true
 digit_at w text i h e l = by_bool (is_digit (get_or text i 0)) (λ f. not_both (list_all is_digit text) (subst (λ t. list_all is_digit t ≡ true) e (decimal_digits w h)) (list_all_at is_digit text i 0 l f))
   where
-  by_bool : (b : Bool) → (b ≡ false → ⊥) → b ≡ true
-  by_bool true f = refl
-  by_bool false f = absurd (f refl)
+    by_bool : (b : Bool) → (b ≡ false → ⊥) → b ≡ true
+    by_bool true f = refl
+    by_bool false f = absurd (f refl)
 
 digit_bounds : (b : ℕ) → is_digit b ≡ true → (48 ≤ b) × (b ≤ 57)
 digit_bounds b h = grind (arith, nat_tests)

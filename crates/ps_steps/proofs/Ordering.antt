@@ -22,16 +22,16 @@ standing_line true End h = refl
 standing_line false (Head n) h = absurd (cc)
 standing_line false (Leaf b i) h = or_no _ h
   where
-  or_no : (t : Bool) → (t || false) ≡ true → t ≡ true
-  or_no true e = refl
-  or_no false e = e
+    or_no : (t : Bool) → (t || false) ≡ true → t ≡ true
+    or_no true e = refl
+    or_no false e = e
 standing_line false (Id b) h = refl
 standing_line false Join h = refl
 standing_line false (Rewrite s) h = or_no _ h
   where
-  or_no : (t : Bool) → (t || false) ≡ true → t ≡ true
-  or_no true e = refl
-  or_no false e = e
+    or_no : (t : Bool) → (t || false) ≡ true → t ≡ true
+    or_no true e = refl
+    or_no false e = e
 standing_line false Overlap h = refl
 standing_line false End h = refl
 

@@ -132,5 +132,9 @@ pub fn standing(piece: &[u8], first: bool) -> Option<Line>
     ensures { MatchOption result (NoneStands first piece.now) (λ l. StandsThere first piece.now l) }
 {
     let line = line(piece)?;
-    if is_head(&line) == first { Some(line) } else { None }
+    if is_head(&line) == first {
+        Some(line)
+    } else {
+        None
+    }
 }

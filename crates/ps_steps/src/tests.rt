@@ -46,7 +46,8 @@ fn first_other(alloc: Global, rows: &[(&[u8], Came)]) -> Result<usize, AllocErro
     Ok(rows.len())
 }
 
-const WHOLE: &[u8] = b"pathsum 1\nleaf a 0\nomega 0\nleaf a 1\nomega 0\njoin\nhh 0 1\nid b\noverlap\nelim 0\nend\n";
+const WHOLE: &[u8] =
+    b"pathsum 1\nleaf a 0\nomega 0\nleaf a 1\nomega 0\njoin\nhh 0 1\nid b\noverlap\nelim 0\nend\n";
 
 #[test]
 fn rows(rt: HostRuntime) -> Result<(), Fail> {
@@ -55,7 +56,10 @@ fn rows(rt: HostRuntime) -> Result<(), Fail> {
     let rows = [
         (WHOLE, Came::Same),
         (b"pathsum 1\nend\n".as_slice(), Came::Same),
-        (b"pathsum 1\nleaf b 4294967295\nhh 65535 0\nend\n".as_slice(), Came::Same),
+        (
+            b"pathsum 1\nleaf b 4294967295\nhh 65535 0\nend\n".as_slice(),
+            Came::Same,
+        ),
         (b"pathsum 1\nturn\n".as_slice(), form(2)),
         (b"pathsum 1\n".as_slice(), cut(2)),
         (b"pathsum 1".as_slice(), cut(1)),
