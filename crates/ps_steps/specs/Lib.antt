@@ -1,3 +1,4 @@
+pub mod Holding
 pub mod Pieces
 pub mod Spelled
 pub mod Steps
