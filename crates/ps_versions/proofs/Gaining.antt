@@ -1,14 +1,15 @@
 -- A circuit that gains versions.
-use Rattle.std.proofs.Common.{◌≡◌, ℕ, zero, suc, ◌+◌, ◌-◌, ◌*◌, ◌<◌, ◌≤◌, ◌⊎◌, inl, inr, max, List, [], ◌∷◌, ◌++◌, length, replicate, set, get_or, refl, sym, ap, ◌∙◌, subst, arith, length-append, append-nil, append_assoc}
+use Rattle.std.proofs.Common.{◌≡◌, ℕ, zero, suc, ◌+◌, ◌-◌, ◌*◌, ◌<◌, ◌≤◌, ◌⊎◌, inl, inr, max, List, [], ◌∷◌, ◌++◌, take, drop, length, replicate, set, get_or, refl, sym, ap, ◌∙◌, subst, arith, length-append, append-nil, append_assoc}
 use Rattle.std.specs.Prelude.{Option, Some, None, slice_get}
 use Rattle.std.proofs.lemmas.List.{length-set}
 use Rattle.std.proofs.lemmas.Option.{slice_get_within, slice_get_past}
-use Rattle.seg_tree.specs.Trees.{Tree, build, splice}
+use Rattle.seg_tree.specs.Trees.{Tree, build, splice, run_maybe}
 use Rattle.seg_tree.specs.Measures.{uses_maybe, height_maybe}
 use Rattle.seg_tree.specs.Table.{tree, root_tree, IsRoot}
 use Rattle.seg_tree.specs.Growth.{Keeps, PlantsMaybe, Passes}
 use Rattle.ps_versions.specs.Held.{Held, Version, Circuit}
 use Rattle.ps_versions.specs.Lookup.{circuit_in, version_in, root_of, change_at}
+use Rattle.ps_versions.specs.Lives.{IsLife}
 use Rattle.ps_versions.specs.Records.{IsOnce}
 use Rattle.ps_versions.specs.Questions.{missing_in}
 use Rattle.ps_versions.specs.Opened.{fresh_version}
@@ -85,15 +86,15 @@ each_append P (y ∷ xs) ys all more zero x e = all zero x e
 each_append P (y ∷ xs) ys all more (suc k) x e = each_append P xs ys (λ j z g. all (suc j) z g) more k x e
 
 module _ {R : Type 0} (a b : Inside R) (i : ℕ) (more : List Edition) where
-  pub sound_gains : b.names.keys ≡ a.names.keys → (g : Gains a.courses.items b.courses.items i more) → Keeps a.nodes b.nodes → length b.records.items ≡ length b.nodes → length g.was.editions.items + length more < 4294967296 → ((k : ℕ) (e : Edition) → slice_get more k ≡ Some e → IsOnce b.nodes e.root) → ((k : ℕ) (e : Edition) → slice_get more k ≡ Some e → e.pins ≤ 128) → IsSound a → IsSound b
-  sound_gains names g kept recorded few once pins s = record {
+  pub sound_gains : b.names.keys ≡ a.names.keys → (g : Gains a.courses.items b.courses.items i more) → Keeps a.nodes b.nodes → length b.records.items ≡ length b.nodes → length g.was.editions.items + length more < 4294967296 → ((k : ℕ) (e : Edition) → slice_get more k ≡ Some e → IsOnce b.nodes e.root) → ((k : ℕ) (e : Edition) → slice_get more k ≡ Some e → IsLife (version_of e)) → IsSound a → IsSound b
+  sound_gains names g kept recorded few once lives s = record {
     named = omega (arith, ap length names, gains_length a.courses.items b.courses.items i more g, s.named);
     recorded = recorded;
     numbered = λ k x h. each_set (λ y. length y.editions.items < 4294967296) a.courses.items i g.course s.numbered (omega (arith, ap length g.editions, length-append g.was.editions.items more, few)) k x (moved k x h);
     once = λ k j x y h r. each_set (λ z. (j : ℕ) (y : Edition) → slice_get z.editions.items j ≡ Some y → IsOnce b.nodes y.root) a.courses.items i g.course (λ k z h j y r. once_kept a.nodes b.nodes y.root kept (s.once k j z y h r))
         (λ j y r. each_append (λ y. IsOnce b.nodes y.root) g.was.editions.items more (λ j y r. once_kept a.nodes b.nodes y.root kept (s.once i j g.was y g.there r)) once j y (subst (λ es. slice_get es j ≡ Some y) g.editions r)) k x (moved k x h) j y r;
-    pinned = λ k j x y h r. each_set (λ z. (j : ℕ) (y : Edition) → slice_get z.editions.items j ≡ Some y → y.pins ≤ 128) a.courses.items i g.course (λ k z h j y r. s.pinned k j z y h r)
-        (λ j y r. each_append (λ y. y.pins ≤ 128) g.was.editions.items more (λ j y r. s.pinned i j g.was y g.there r) pins j y (subst (λ es. slice_get es j ≡ Some y) g.editions r)) k x (moved k x h) j y r;
+    lives = λ k j x y h r. each_set (λ z. (j : ℕ) (y : Edition) → slice_get z.editions.items j ≡ Some y → IsLife (version_of y)) a.courses.items i g.course (λ k z h j y r. s.lives k j z y h r)
+        (λ j y r. each_append (λ y. IsLife (version_of y)) g.was.editions.items more (λ j y r. s.lives i j g.was y g.there r) lives j y (subst (λ es. slice_get es j ≡ Some y) g.editions r)) k x (moved k x h) j y r;
   }
     where
       moved : (k : ℕ) (x : Course) → slice_get b.courses.items k ≡ Some x → slice_get (set a.courses.items i g.course) k ≡ Some x
@@ -137,8 +138,8 @@ pub once_none : (ts : List (Tree ℕ)) → IsOnce ts None
 once_none ts = record { there = tt; once = λ k. omega arith }
 
 -- the whole of a splice
-pub spliced : {R : Type 0} (a b : Inside R) (old : Held R) (i from to number : ℕ) (items : List ℕ) (e : Edition) (r : Option ℕ) → b.names.keys ≡ a.names.keys → Gains a.courses.items b.courses.items i (e ∷ []) → version_of e ≡ fresh_version e.root → b.records.items ≡ a.records.items ++ replicate (length b.nodes - length a.nodes) None → r ≡ latest_root (slice_get (seen a).circuits i) → PlantsMaybe a.nodes b.nodes (splice (root_tree a.nodes r) from to items) e.root → Passes (length a.nodes) (length b.nodes) (λ k. uses_maybe k (root_tree a.nodes r)) (λ k. uses_maybe k (root_tree b.nodes e.root)) → length b.nodes ≤ length a.nodes + 64 * (max (height_maybe (root_tree a.nodes r)) (height_maybe (build items)) + 1) + 2 * length items → number ≡ latest_of (slice_get (seen a).circuits i) + 1 → IsSound a → seen a ≡ old → SplicesAt old (seen b) (Some i) from to items number
-spliced {R} a b old i from to number items e r names g fresh records is planted passes few num s told =
+pub spliced : {R : Type 0} (a b : Inside R) (old : Held R) (i from to number : ℕ) (items : List ℕ) (e : Edition) (r : Option ℕ) → b.names.keys ≡ a.names.keys → Gains a.courses.items b.courses.items i (e ∷ []) → version_of e ≡ fresh_version e.root → b.records.items ≡ a.records.items ++ replicate (length b.nodes - length a.nodes) None → r ≡ latest_root (slice_get (seen a).circuits i) → run_maybe (root_tree b.nodes e.root) ≡ take from (run_maybe (root_tree a.nodes r)) ++ items ++ drop to (run_maybe (root_tree a.nodes r)) → PlantsMaybe a.nodes b.nodes (splice (root_tree a.nodes r) from to items) e.root → Passes (length a.nodes) (length b.nodes) (λ k. uses_maybe k (root_tree a.nodes r)) (λ k. uses_maybe k (root_tree b.nodes e.root)) → length b.nodes ≤ length a.nodes + 64 * (max (height_maybe (root_tree a.nodes r)) (height_maybe (build items)) + 1) + 2 * length items → number ≡ latest_of (slice_get (seen a).circuits i) + 1 → IsSound a → seen a ≡ old → SplicesAt old (seen b) (Some i) from to items number
+spliced {R} a b old i from to number items e r names g fresh records is run planted passes few num s told =
     let more : ℕ = length b.nodes - length a.nodes in
     let kept : kept_of b.records.items ≡ kept_of a.records.items ++ replicate more None = kept_grown a b more records in
     let long : length (kept_of a.records.items) ≡ length a.nodes = length-kept a.records.items ∙ s.recorded in
@@ -150,6 +151,7 @@ spliced {R} a b old i from to number items e r names g fresh records is planted 
     let base : root_tree a.nodes r ≡ latest_tree (seen a) (Some i) = ap (root_tree a.nodes) is in
     subst (λ h. SplicesAt h (seen b) (Some i) from to items number) told (record {
       root = e.root;
+      run = subst (λ t. run_maybe (root_tree b.nodes e.root) ≡ take from (run_maybe t) ++ items ++ drop to (run_maybe t)) base run;
       planted = subst (λ t. PlantsMaybe a.nodes b.nodes (splice t from to items) e.root) base planted;
       circuits = ap (λ ns. circuits_of ns b.courses.items) names ∙ circuits-gain a.names.keys a.courses.items b.courses.items i (e ∷ []) s.named g ∙ ap (λ v. change_at (circuits_of a.names.keys a.courses.items) i (with_more (v ∷ []))) fresh;
       kept = kept;

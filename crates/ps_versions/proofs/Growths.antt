@@ -6,16 +6,18 @@ use Rattle.std.specs.Cmp.Lexicographic.{pointwise}
 use Rattle.std.proofs.lemmas.Grind.{common_steps}
 use Rattle.std.proofs.lemmas.List.Sums.{fails_before_first}
 use Rattle.std.proofs.lemmas.Option.{slice_get-get_or}
-use Rattle.seg_tree.specs.Trees.{Tree, build}
+use Rattle.seg_tree.specs.Trees.{Tree, build, run_maybe}
 use Rattle.seg_tree.specs.Measures.{uses_maybe}
 use Rattle.seg_tree.specs.Table.{tree, root_tree, IsRoot}
 use Rattle.seg_tree.specs.Growth.{Keeps, PlantsMaybe, Passes}
 use Rattle.ps_versions.specs.Held.{Held, Version, Circuit}
-use Rattle.ps_versions.specs.Lookup.{circuit_at, place_of}
+use Rattle.ps_versions.specs.Lookup.{circuit_at, version_in, version_at, place_of}
+use Rattle.ps_versions.specs.Lives.{IsLife}
 use Rattle.ps_versions.specs.Records.{IsOnce}
 use Rattle.ps_versions.specs.Opened.{Opens, fresh_version}
 use Rattle.ps_versions.specs.Views.{version_of, versions_of, circuit_of, circuits_of, kept_of, seen, IsSound}
 use Rattle.ps_versions.proofs.Lookups.{place_found, place-fields, length-circuits}
+use Rattle.ps_versions.proofs.Finding.{last_circuit}
 use Rattle.ps_versions.specs.declared.data.Edition.{Edition}
 use Rattle.ps_versions.specs.declared.data.Course.{Course}
 use Rattle.ps_versions.specs.declared.data.Stored.{Stored}
@@ -107,19 +109,19 @@ module _ {R : Type 0} (a b : Inside R) where
     recorded = omega (arith, ap length r, ap length t, s.recorded);
     numbered = λ i x g. s.numbered i x (subst (λ cs. slice_get cs i ≡ Some x) c g);
     once = λ i j x e g h. subst (λ ts. IsOnce ts e.root) (sym t) (s.once i j x e (subst (λ cs. slice_get cs i ≡ Some x) c g) h);
-    pinned = λ i j x e g h. s.pinned i j x e (subst (λ cs. slice_get cs i ≡ Some x) c g) h;
+    lives = λ i j x e g h. s.lives i j x e (subst (λ cs. slice_get cs i ≡ Some x) c g) h;
   }
 
   -- one circuit more
-  pub sound_more : (n : List ℕ) (d : Course) (e : Edition) → b.names.keys ≡ a.names.keys ++ n ∷ [] → b.courses.items ≡ a.courses.items ++ d ∷ [] → d.editions.items ≡ e ∷ [] → Keeps a.nodes b.nodes → length b.records.items ≡ length b.nodes → IsOnce b.nodes e.root → e.pins ≡ 0 → IsSound a → IsSound b
-  sound_more n d e names courses editions kept recorded once pins s = record {
+  pub sound_more : (n : List ℕ) (d : Course) (e : Edition) → b.names.keys ≡ a.names.keys ++ n ∷ [] → b.courses.items ≡ a.courses.items ++ d ∷ [] → d.editions.items ≡ e ∷ [] → Keeps a.nodes b.nodes → length b.records.items ≡ length b.nodes → IsOnce b.nodes e.root → IsLife (version_of e) → IsSound a → IsSound b
+  sound_more n d e names courses editions kept recorded once life s = record {
     named = omega (arith, ap length names, ap length courses, length-append a.names.keys (n ∷ []), length-append a.courses.items (d ∷ []), s.named);
     recorded = recorded;
     numbered = λ i x g. each_more (λ y. length y.editions.items < 4294967296) a.courses.items d s.numbered (omega (arith, ap length editions)) i x (subst (λ cs. slice_get cs i ≡ Some x) courses g);
     once = λ i j x y g h. each_more (λ z. (j : ℕ) (y : Edition) → slice_get z.editions.items j ≡ Some y → IsOnce b.nodes y.root) a.courses.items d (λ k z g j y h. once_kept a.nodes b.nodes y.root kept (s.once k j z y g h))
         (λ j y h. each_more (λ y. IsOnce b.nodes y.root) [] e (λ k y h. cc) once j y (subst (λ es. slice_get es j ≡ Some y) editions h)) i x (subst (λ cs. slice_get cs i ≡ Some x) courses g) j y h;
-    pinned = λ i j x y g h. each_more (λ z. (j : ℕ) (y : Edition) → slice_get z.editions.items j ≡ Some y → y.pins ≤ 128) a.courses.items d (λ k z g j y h. s.pinned k j z y g h)
-        (λ j y h. each_more (λ y. y.pins ≤ 128) [] e (λ k y h. cc) (omega (arith, pins)) j y (subst (λ es. slice_get es j ≡ Some y) editions h)) i x (subst (λ cs. slice_get cs i ≡ Some x) courses g) j y h;
+    lives = λ i j x y g h. each_more (λ z. (j : ℕ) (y : Edition) → slice_get z.editions.items j ≡ Some y → IsLife (version_of y)) a.courses.items d (λ k z g j y h. s.lives k j z y g h)
+        (λ j y h. each_more (λ y. IsLife (version_of y)) [] e (λ k y h. cc) life j y (subst (λ es. slice_get es j ≡ Some y) editions h)) i x (subst (λ cs. slice_get cs i ≡ Some x) courses g) j y h;
   }
 
   -- what is seen of one circuit more
@@ -134,11 +136,16 @@ module _ {R : Type 0} (a b : Inside R) where
   kept_grown m e = ap kept_of e ∙ kept-more a.records.items m
 
 -- the whole of opening a circuit
-pub opened : {R : Type 0} (a b : Inside R) (old : Held R) (n : List ℕ) (d : Course) (e : Edition) (items : List ℕ) → b.names.keys ≡ a.names.keys ++ n ∷ [] → b.courses.items ≡ a.courses.items ++ d ∷ [] → d.editions.items ≡ e ∷ [] → version_of e ≡ fresh_version e.root → b.records.items ≡ a.records.items ++ replicate (length b.nodes - length a.nodes) None → PlantsMaybe a.nodes b.nodes (build items) e.root → IsSound a → seen a ≡ old → Opens old (seen b) n d.qubits items d.opened
-opened {R} a b old n d e items names courses editions fresh records planted s is =
+pub opened : {R : Type 0} (a b : Inside R) (old : Held R) (n : List ℕ) (d : Course) (e : Edition) (items : List ℕ) → b.names.keys ≡ a.names.keys ++ n ∷ [] → b.courses.items ≡ a.courses.items ++ d ∷ [] → d.editions.items ≡ e ∷ [] → version_of e ≡ fresh_version e.root → b.records.items ≡ a.records.items ++ replicate (length b.nodes - length a.nodes) None → run_maybe (root_tree b.nodes e.root) ≡ items → PlantsMaybe a.nodes b.nodes (build items) e.root → circuit_at old.circuits n ≡ None → IsSound a → seen a ≡ old → Opens old (seen b) n d.qubits items d.opened
+opened {R} a b old n d e items names courses editions fresh records run planted new s is =
+    let absent_there : circuit_at (seen a).circuits n ≡ None = ap (λ h. circuit_at h.circuits n) is ∙ new in
+    let circuits : (seen b).circuits ≡ (seen a).circuits ++ record { name = n; qubits = d.qubits; opened = d.opened; versions = fresh_version e.root ∷ [] } ∷ [] =
+    circuits_more a b n d e names courses editions s ∙ ap (λ v. circuits_of a.names.keys a.courses.items ++ record { name = n; qubits = d.qubits; opened = d.opened; versions = v ∷ [] } ∷ []) fresh in
     subst (λ h. Opens h (seen b) n d.qubits items d.opened) is (record {
       root = e.root;
+      run = run;
       planted = planted;
-      circuits = circuits_more a b n d e names courses editions s ∙ ap (λ v. circuits_of a.names.keys a.courses.items ++ record { name = n; qubits = d.qubits; opened = d.opened; versions = v ∷ [] } ∷ []) fresh;
+      circuits = circuits;
+      version = ap (λ cs. version_at cs n 1) circuits ∙ ap (λ o. version_in o 1) (last_circuit (seen a).circuits (record { name = n; qubits = d.qubits; opened = d.opened; versions = fresh_version e.root ∷ [] }) absent_there);
       kept = kept_grown a b (length b.nodes - length a.nodes) records;
     })

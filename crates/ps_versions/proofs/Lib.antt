@@ -4,3 +4,7 @@ pub mod Weights
 pub mod Heights
 pub mod Growths
 pub mod Gaining
+pub mod Finding
+pub mod Ends
+pub mod Storing
+pub mod Telling

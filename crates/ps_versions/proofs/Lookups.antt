@@ -40,7 +40,7 @@ get-versions [] i e g = cc
 get-versions (x ∷ es) zero e g = let same : x ≡ e = cc in ap (λ y. Some (version_of y)) same
 get-versions (x ∷ es) (suc i) e g = get-versions es i e g
 
-length-names : (cs : List Circuit) → length (names_of cs) ≡ length cs
+pub length-names : (cs : List Circuit) → length (names_of cs) ≡ length cs
 length-names [] = refl
 length-names (c ∷ cs) = omega (arith, length-names cs)
 

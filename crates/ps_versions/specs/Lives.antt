@@ -1,7 +1,16 @@
--- What retiring, pinning and releasing do to a version. It is kept while it is live or pinned.
-use Rattle.std.specs.Prelude.{ℕ, zero, suc, ◌+◌, ◌-◌, ◌≡◌, ◌<◌, List, length, Option, Some, None}
+-- When a version is kept, and what retiring, pinning and releasing do to it.
+use Rattle.std.specs.Prelude.{ℕ, zero, suc, ◌+◌, ◌-◌, ◌≡◌, ◌<◌, ◌≤◌, Bool, ◌||◌, is_none, nat_lt, List, length, Option, Some, None}
 use Rattle.ps_versions.specs.Held.{Version, Circuit}
 use Rattle.ps_versions.specs.Lookup.{version_at, replaced}
+
+-- a version is kept while it is live or pinned
+abbrev pub is_kept : Version → Bool
+is_kept v = is_none v.retired || nat_lt 0 v.pins
+
+-- it has at most 128 pins, and an entry by which it stopped being kept exactly where it is not kept
+pub record IsLife (v : Version) : Type 0 where
+  pub few : v.pins ≤ 128
+  pub ended : is_none v.ended ≡ is_kept v
 
 -- where nothing pins it, it stops being kept by this entry
 abbrev pub ended_where_free : ℕ → ℕ → Option ℕ

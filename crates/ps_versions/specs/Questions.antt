@@ -1,12 +1,14 @@
 -- What is asked of a version: its segments, how many keep nothing, whether it is settled, and which segments are ready.
-use Rattle.std.specs.Prelude.{ℕ, ◌≡◌, ◌<◌, Bool, true, false, cond, ◌&&◌, ◌||◌, not, is_none, eqb, List, [], ◌∷◌, ◌++◌, Option, Some, None}
+use Rattle.std.specs.Prelude.{ℕ, ◌≡◌, ◌<◌, length, Bool, true, false, cond, ◌&&◌, ◌||◌, not, is_none, eqb, List, [], ◌∷◌, ◌++◌, Option, Some, None}
 use Rattle.std.specs.List.{list_any, count_by}
 use Rattle.seg_tree.specs.Trees.{Tree, leaf, branch, name_of}
-use Rattle.seg_tree.specs.Table.{root_tree}
+use Rattle.seg_tree.specs.Table.{tree, root_tree}
 use Rattle.ps_versions.specs.Held.{Held, Version}
 use Rattle.ps_versions.specs.Lookup.{root_of}
-use Rattle.ps_versions.specs.Records.{record_at}
+use Rattle.ps_versions.specs.Records.{record_at, ChildrenHaveSums}
 use Rattle.ps_versions.specs.Walks.{has_name}
+use Rattle.ps_versions.specs.declared.walks.Walk.{Walk}
+use Rattle.ps_versions.specs.declared.walks.Walk.TheVariants.{Seeking, Looking, Found}
 
 -- the segments of a tree, the sides of each before it
 abbrev pub segments : Tree ℕ → List (Tree ℕ)
@@ -93,3 +95,15 @@ module _ {R : Type 0} where
   -- the first segment that is ready in the order of the segments, or the next one behind a segment
   abbrev pub ready_from : (R → Bool) → Held R → Option Version → Option ℕ → Option ℕ
   ready_from passed h v after = first_ready (is_ready h.kept passed) (behind after (segments_maybe (root_tree h.nodes (root_of v))))
+
+-- a node of the table that keeps nothing, and the sides of which, where it has them, keep sums: something may be stored at it
+pub record IsStorable {R : Type 0} (passed : R → Bool) (h : Held R) (k : ℕ) : Type 0 where
+  pub there : k < length h.nodes
+  pub free : record_at h.kept k ≡ None
+  pub ready : ChildrenHaveSums passed h.kept (tree h.nodes k)
+
+-- what a walk has found is so
+abbrev pub FindsStorable : {R : Type 0} → (R → Bool) → Held R → Walk → Type 0
+FindsStorable passed h (Seeking k) = Unit {0}
+FindsStorable passed h Looking = Unit {0}
+FindsStorable passed h (Found k) = IsStorable passed h k

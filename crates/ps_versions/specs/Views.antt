@@ -1,6 +1,7 @@
 -- What is seen of the fields.
 use Rattle.std.specs.Prelude.{ℕ, ◌≡◌, ◌<◌, ◌≤◌, ◌^◌, List, [], ◌∷◌, Option, Some, None, length, slice_get}
 use Rattle.ps_versions.specs.Held.{Held, Version, Circuit}
+use Rattle.ps_versions.specs.Lives.{IsLife}
 use Rattle.ps_versions.specs.Records.{IsOnce}
 use Rattle.ps_versions.specs.declared.data.Edition.{Edition}
 use Rattle.ps_versions.specs.declared.data.Course.{Course}
@@ -35,4 +36,4 @@ module _ {R : Type 0} where
     pub recorded : length a.records.items ≡ length a.nodes
     pub numbered : (i : ℕ) (c : Course) → slice_get a.courses.items i ≡ Some c → length c.editions.items < 2 ^ 32
     pub once : (i j : ℕ) (c : Course) (e : Edition) → slice_get a.courses.items i ≡ Some c → slice_get c.editions.items j ≡ Some e → IsOnce a.nodes e.root
-    pub pinned : (i j : ℕ) (c : Course) (e : Edition) → slice_get a.courses.items i ≡ Some c → slice_get c.editions.items j ≡ Some e → e.pins ≤ 128
+    pub lives : (i j : ℕ) (c : Course) (e : Edition) → slice_get a.courses.items i ≡ Some c → slice_get c.editions.items j ≡ Some e → IsLife (version_of e)

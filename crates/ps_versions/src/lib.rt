@@ -13,3 +13,6 @@ pub(crate) mod walks;
 pub use data::{About, State};
 pub use kept::Kept;
 pub use versions::Versions;
+
+#[cfg(test)]
+mod tests;

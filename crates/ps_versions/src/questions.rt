@@ -1,12 +1,12 @@
 //! What is asked of a version, answered by a walk over the segments of its tree.
-ghost use Rattle.std.specs.Prelude.{◌≡◌, ◌<◌, ◌≤◌, Some, None, IsSome, MatchOption, is_some, length};
+ghost use Rattle.std.specs.Prelude.{◌≡◌, ◌<◌, ◌≤◌, Some, None, IsSome, IfSome, MatchOption, is_some, length};
 ghost use Rattle.std.specs.List.{list_any};
 ghost use Rattle.seg_tree.specs.Trees.{height};
 ghost use Rattle.seg_tree.specs.Table.{tree, root_tree, IsRoot};
 ghost use Rattle.seg_tree.specs.Seen.{Shows};
 ghost use Rattle.ps_versions.specs.Lookup.{version_at, root_of};
 ghost use Rattle.ps_versions.specs.Records.{record_at};
-ghost use Rattle.ps_versions.specs.Questions.{segments, lacks, has_sum, has_passed, is_ready, missing_in, settled_in, missing, is_settled, ready_from};
+ghost use Rattle.ps_versions.specs.Questions.{segments, lacks, has_sum, has_passed, is_ready, missing_in, settled_in, missing, is_settled, ready_from, IsStorable, FindsStorable};
 ghost use Rattle.ps_versions.specs.Walks.{visited, walked};
 
 use crate::kept::Kept;
@@ -62,7 +62,7 @@ impl<R> Versions<R> {
     }
 
     /// Whether there is a version at a place.
-    fn exists(&self, place: &Place) -> bool
+    pub(crate) fn exists(&self, place: &Place) -> bool
         ensures { result ≡ is_some (version_at self.now.circuits place.now.name place.now.version) }
     {
         match self.circuit_of(place.name) {
@@ -154,9 +154,11 @@ impl<R: Kept> Versions<R> {
     }
 
     /// A walk one segment further.
+    #[tactic(auto, using(crate::proofs::Storing::ready_storable, crate::proofs::Counting::named_shown))]
     fn visit(&self, node: Node, walk: Walk) -> Walk
         requires { node < length self.now.nodes }
-        ensures { result ≡ visited (is_ready self.now.kept R.passed) walk (tree self.now.nodes node) }
+        ensures value { result ≡ visited (is_ready self.now.kept R.passed) walk (tree self.now.nodes node) }
+        ensures storable { FindsStorable R.passed self.now walk → FindsStorable R.passed self.now result }
     {
         let _ = self.look(node);
         match walk {
@@ -181,7 +183,8 @@ impl<R: Kept> Versions<R> {
     /// A walk over the segments of a node's tree.
     fn walk(&self, node: Node, walk: Walk) -> Walk
         requires { node < length self.now.nodes }
-        ensures { result ≡ walked (is_ready self.now.kept R.passed) walk (segments (tree self.now.nodes node)) }
+        ensures value { result ≡ walked (is_ready self.now.kept R.passed) walk (segments (tree self.now.nodes node)) }
+        ensures storable { FindsStorable R.passed self.now walk → FindsStorable R.passed self.now result }
     {
         if walk.is_found() {
             return walk;
@@ -200,7 +203,8 @@ impl<R: Kept> Versions<R> {
     /// or the next such one behind a segment of that version. The sides of a segment come before it, the left one first.
     pub fn ready(&self, place: &Place, after: Option<Node>) -> Option<Node>
         requires { IsSome (version_at self.now.circuits place.now.name place.now.version) }
-        ensures { result ≡ ready_from R.passed self.now (version_at self.now.circuits place.now.name place.now.version) after }
+        ensures value { result ≡ ready_from R.passed self.now (version_at self.now.circuits place.now.name place.now.version) after }
+        ensures storable { IfSome result (IsStorable R.passed self.now) }
     {
         match self.root(place) {
             None => None,

@@ -1,8 +1,9 @@
 //! Circuits, versions and records.
-ghost use Rattle.std.specs.Prelude.{◌≡◌, ◌<◌, ◌≤◌, ℕ, [], None, Some, IsSome, MatchOption, slice_get, slice_set, length};
+ghost use Rattle.std.specs.Prelude.{◌≡◌, ◌<◌, ◌≤◌, ◌||◌, ℕ, is_none, nat_lt, [], None, Some, IsSome, MatchOption, slice_get, slice_set, length};
 ghost use Rattle.seg_tree.specs.Table.{tree};
 ghost use Rattle.ps_versions.specs.Held.{Version};
 ghost use Rattle.ps_versions.specs.Lookup.{place_of, circuit_at, version_at, root_of, replaced};
+ghost use Rattle.ps_versions.specs.Lives.{is_kept, IsLife};
 ghost use Rattle.ps_versions.specs.Told.{about, Tells};
 ghost use Rattle.ps_versions.specs.Views.{version_of};
 ghost use Rattle.ps_versions.specs.Records.{record_at, ChildrenHaveSums, IsOnce};
@@ -83,7 +84,7 @@ impl<R> Versions<R> {
         requires { IsSome (version_at self.now.circuits place.now.name place.now.version) }
         ensures value { version_at self.now.circuits place.now.name place.now.version ≡ Some (version_of result.now) }
         ensures once { IsOnce self.now.nodes result.now.root }
-        ensures pins { result.now.pins ≤ 128 }
+        ensures life { IsLife (version_of result.now) }
     {
         match self.place_of(&place.name) {
             None => unreachable!(),
@@ -94,10 +95,12 @@ impl<R> Versions<R> {
         }
     }
 
-    /// What is told of the version at a place, which exists.
+    /// What is told of the version at a place, which exists. A version is kept while it is live or pinned, and it has an
+    /// entry by which it stopped being kept exactly where it is not.
     pub fn state(&self, place: &Place) -> State
         requires { IsSome (version_at self.now.circuits place.now.name place.now.version) }
-        ensures { Tells (version_at self.now.circuits place.now.name place.now.version) result }
+        ensures told { Tells (version_at self.now.circuits place.now.name place.now.version) result }
+        ensures kept { is_none result.ended ≡ (is_none result.retired || nat_lt 0 result.pins) }
     {
         let edition = self.edition(place);
         State {
@@ -120,7 +123,7 @@ impl<R> Versions<R> {
     pub(crate) fn replace(&mut self, place: &Place, edition: Edition)
         requires there { IsSome (version_at self.old.circuits place.now.name place.now.version) }
         requires once { IsOnce self.old.nodes edition.root }
-        requires pins { edition.pins ≤ 128 }
+        requires life { IsLife (version_of edition) }
         ensures circuits { self.new.circuits ≡ replaced self.old.circuits place.now.name place.now.version (version_of edition) }
         ensures nodes { self.new.nodes ≡ self.old.nodes }
         ensures kept { self.new.kept ≡ self.old.kept }
@@ -134,9 +137,10 @@ impl<R> Versions<R> {
         }
     }
 
-    /// The table of all nodes.
+    /// The table of all nodes. There is a place for what each of them keeps.
     pub fn nodes(&self) -> &Nodes
-        ensures { result.now ≡ self.now.nodes }
+        ensures nodes { result.now ≡ self.now.nodes }
+        ensures kept { length self.now.kept ≡ length self.now.nodes }
     {
         &self.nodes
     }
@@ -160,6 +164,7 @@ impl<R: Kept + Drop> Versions<R> {
         requires free { record_at self.old.kept node ≡ None }
         requires ready { ChildrenHaveSums R.passed self.old.kept (tree self.old.nodes node) }
         ensures kept { self.new.kept ≡ slice_set self.old.kept node (Some (entry, kept)) }
+        ensures stored { record_at self.new.kept node ≡ Some (entry, kept) }
         ensures circuits { self.new.circuits ≡ self.old.circuits }
         ensures nodes { self.new.nodes ≡ self.old.nodes }
     {

@@ -6,14 +6,17 @@ use Rattle.ps_versions.specs.Walks.{visited, walked, is_found}
 use Rattle.ps_versions.proofs.Counting.{walk_over, walk_branch}
 use Rattle.ps_versions.proofs.versions.Versions.+walk.Goals as goal
 
-pub returns-then-is_found : goal.returns-then-is_found
-returns-then-is_found g t c = walk_over (is_ready c.args.self.now.kept g.R.Kept.passed) c.args.walk (segments (tree c.args.self.now.nodes c.args.node)) (sym c.is_found.ensures ∙ c.if-is_found.true)
+pub returns-then-is_found-clause-value : goal.returns-then-is_found-clause-value
+returns-then-is_found-clause-value g t c = walk_over (is_ready c.args.self.now.kept g.R.Kept.passed) c.args.walk (segments (tree c.args.self.now.nodes c.args.node)) (sym c.is_found.ensures ∙ c.if-is_found.true)
 
-pub returns-in-Branch : goal.returns-in-Branch
-returns-in-Branch g t c =
+pub returns-in-Branch-clause-value : goal.returns-in-Branch-clause-value
+returns-in-Branch-clause-value g t c =
     let ts = c.args.self.now.nodes in
     let ready = is_ready c.args.self.now.kept g.R.Kept.passed in
     let k = c.args.node in
-    c.visit-in-Branch.ensures
-    ∙ ap (λ w. visited ready w (tree ts k)) (c.walk-between.ensures ∙ ap (λ w. walked ready w (segments (tree ts c.in-Branch.right))) c.walk-before.ensures)
+    c.visit-in-Branch.ensures.value
+    ∙ ap (λ w. visited ready w (tree ts k)) (c.walk-between.ensures.value ∙ ap (λ w. walked ready w (segments (tree ts c.in-Branch.right))) c.walk-before.ensures.value)
     ∙ sym (walk_branch ready c.args.walk (tree ts k) (Some k) (tree ts c.in-Branch.left) (tree ts c.in-Branch.right) c.in-Branch.ensures.0)
+
+pub returns-in-Branch-clause-storable : goal.returns-in-Branch-clause-storable
+returns-in-Branch-clause-storable g t c = λ h. c.visit-in-Branch.ensures.storable (c.walk-between.ensures.storable (c.walk-before.ensures.storable h))

@@ -52,8 +52,8 @@ returns-clause-once g c =
     let read : slice_get course.editions.items (v - 1) ≡ Some c.index.result.now = slice_get_read course.editions.items (length course.editions.items) (v - 1) c.index.result.now refl below c.index.ensures in
     subst (λ h. IsOnce h.nodes c.index.result.now.root) c.self.view_is (c.self.invariant.once i (v - 1) course c.index.result.now got read)
 
-pub returns-clause-pins : goal.returns-clause-pins
-returns-clause-pins g c =
+pub returns-clause-life : goal.returns-clause-life
+returns-clause-life g c =
     let cs = c.self.inside.courses.items in
     let keys = c.self.inside.names.keys in
     let course = c.index-course.result.now in
@@ -65,4 +65,4 @@ returns-clause-pins g c =
     let there = version_there (circuit_of (get_or keys i []) course) v (subst (λ o. IsSome (version_in o v)) found c.requires) in
     let below : v - 1 < length course.editions.items = omega (arith, there.1, length-versions course.editions.items) in
     let read : slice_get course.editions.items (v - 1) ≡ Some c.index.result.now = slice_get_read course.editions.items (length course.editions.items) (v - 1) c.index.result.now refl below c.index.ensures in
-    c.self.invariant.pinned i (v - 1) course c.index.result.now got read
+    c.self.invariant.lives i (v - 1) course c.index.result.now got read

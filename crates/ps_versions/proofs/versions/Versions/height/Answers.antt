@@ -11,7 +11,7 @@ pub returns-clause-few : goal.returns-clause-few
 returns-clause-few g c =
     let ts = c.nodes-nodes.result.now in
     let k = c.args.node in
-    let same : ts ≡ c.args.self.now.nodes = c.nodes-nodes.ensures in
+    let same : ts ≡ c.args.self.now.nodes = c.nodes-nodes.ensures.nodes in
     let below : length (run (tree ts k)) ≤ 65536 = omega (arith, c.len.ensures.value, c.len.ensures.short) in
     let filled : leaves (tree ts k) ≤ length (run (tree ts k)) = c.height.ensures.filled in
     subst (λ (xs : List (Tree ℕ)). length (segments (tree xs k)) ≤ 131072) same (omega (arith, count_segments (tree ts k), below, filled))

@@ -9,6 +9,7 @@ use Rattle.ps_versions.specs.Held.{Held}
 use Rattle.ps_versions.specs.Lookup.{circuit_at}
 use Rattle.ps_versions.specs.Opened.{Opens}
 use Rattle.ps_versions.specs.Views.{seen}
+use Rattle.ps_versions.proofs.Ends.{fresh_life}
 use Rattle.ps_versions.proofs.Growths.{absent, once_new, sound_same, sound_more, opened}
 use Rattle.ps_versions.specs.declared.data.Edition.{Edition}
 use Rattle.ps_versions.specs.declared.data.Course.{Course}
@@ -36,7 +37,7 @@ invariant_of-self-2 g c =
     planted.kept
     (omega (arith, c.fill.ensures.len, c.count.ensures, c.fill.new.records.ok.0))
     (once_new (length c.self.inside.nodes) (length c.build.new.self) c.build.new.self c.in-Ok-build.root (λ k. 0) planted.within c.in-Ok-build.ensures.nodes (λ k. omega arith))
-    refl
+    (fresh_life c.in-Ok-build.root)
     c.self.invariant
 
 pub returns-clause-opened : goal.returns-clause-opened
@@ -51,6 +52,8 @@ returns-clause-opened g c =
     (c.push_reserved.ensures.items ∙ ap (λ es. es ++ e ∷ []) c.in-Ok.ensures.editions.0)
     refl
     (c.fill.ensures.items ∙ ap (λ rs. rs ++ replicate (c.count.result - vec_len c.make_room.new.records) None) c.make_room.ensures.records ∙ ap (λ m. a.records.items ++ replicate m None) more)
+    c.in-Ok-build.ensures.run
     c.in-Ok-build.ensures.tree
+    c.requires.new
     c.self.invariant
     c.self.view_is

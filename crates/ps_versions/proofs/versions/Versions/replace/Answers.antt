@@ -4,6 +4,7 @@ use Rattle.std.proofs.lemmas.Option.{slice_get_read}
 use Rattle.std.proofs.lemmas.List.{length-set}
 use Rattle.ps_versions.specs.Held.{Version, Circuit}
 use Rattle.ps_versions.specs.Lookup.{circuit_at, version_in, change_at, with_version, replaced_in}
+use Rattle.ps_versions.specs.Lives.{IsLife}
 use Rattle.ps_versions.specs.Records.{IsOnce}
 use Rattle.ps_versions.specs.Views.{circuit_of, version_of}
 use Rattle.ps_versions.specs.declared.data.Edition.{Edition}
@@ -49,8 +50,8 @@ invariant_of-self g c =
       numbered = each_set (λ x. length x.editions.items < 4294967296) cs i _ c.self.invariant.numbered (omega (arith, length-set es (v - 1) c.args.edition, c.self.invariant.numbered i course got));
       once = λ k j x y h r. each_set (λ z. (j : ℕ) (y : Edition) → slice_get z.editions.items j ≡ Some y → IsOnce nodes y.root) cs i _ (λ k x h j y r. c.self.invariant.once k j x y h r)
           (each_set (λ y. IsOnce nodes y.root) es (v - 1) c.args.edition (λ j y r. c.self.invariant.once i j course y got r) once) k x h j y r;
-      pinned = λ k j x y h r. each_set (λ z. (j : ℕ) (y : Edition) → slice_get z.editions.items j ≡ Some y → y.pins ≤ 128) cs i _ (λ k x h j y r. c.self.invariant.pinned k j x y h r)
-          (each_set (λ y. y.pins ≤ 128) es (v - 1) c.args.edition (λ j y r. c.self.invariant.pinned i j course y got r) c.requires.pins) k x h j y r;
+      lives = λ k j x y h r. each_set (λ z. (j : ℕ) (y : Edition) → slice_get z.editions.items j ≡ Some y → IsLife (version_of y)) cs i _ (λ k x h j y r. c.self.invariant.lives k j x y h r)
+          (each_set (λ y. IsLife (version_of y)) es (v - 1) c.args.edition (λ j y r. c.self.invariant.lives i j course y got r) c.requires.life) k x h j y r;
     }
 
 pub returns-clause-circuits : goal.returns-clause-circuits

@@ -4,11 +4,13 @@ use Rattle.seg_tree.specs.Trees.{Tree, build, splice}
 use Rattle.seg_tree.specs.Measures.{height_maybe, uses_maybe}
 use Rattle.seg_tree.specs.Table.{root_tree}
 use Rattle.seg_tree.specs.Growth.{PlantsMaybe, Passes}
+use Rattle.ps_versions.specs.Lives.{IsLife}
 use Rattle.ps_versions.specs.Records.{IsOnce}
 use Rattle.ps_versions.specs.Spliced.{latest_of, latest_root}
 use Rattle.ps_versions.specs.Gains.{Gains}
-use Rattle.ps_versions.specs.Views.{seen}
+use Rattle.ps_versions.specs.Views.{seen, version_of}
 use Rattle.ps_versions.proofs.Lookups.{length-circuits}
+use Rattle.ps_versions.proofs.Ends.{fresh_life}
 use Rattle.ps_versions.proofs.Heights.{low-build}
 use Rattle.ps_versions.proofs.Growths.{once_new}
 use Rattle.ps_versions.proofs.Gaining.{gains_length, gains_then, sound_gains, no_more, one_more, keeps_all, keeps_same, seen_same, count_of, spliced}
@@ -29,7 +31,7 @@ invariant_of-self g c =
     (ap length c.make_place.ensures.records ∙ c.self.invariant.recorded)
     (omega (arith, few))
     (no_more (λ y. IsOnce a.nodes y.root))
-    (no_more (λ y. y.pins ≤ 128))
+    (no_more (λ y. IsLife (version_of y)))
     c.self.invariant
 
 pub returns-in_default-clause-err : goal.returns-in_default-clause-err
@@ -50,7 +52,7 @@ invariant_of-self-in_default-splice g c =
     (ap length c.make_place.ensures.records ∙ c.self.invariant.recorded ∙ ap length (sym stays))
     (omega (arith, few))
     (no_more (λ y. IsOnce c.splice.new.self y.root))
-    (no_more (λ y. y.pins ≤ 128))
+    (no_more (λ y. IsLife (version_of y)))
     c.self.invariant
 
 pub returns-in_default-splice-clause-err : goal.returns-in_default-splice-clause-err
@@ -103,13 +105,12 @@ invariant_of-self-2 g c =
     let passes : Passes (length a.nodes) (length c.splice.new.self) (λ k. uses_maybe k (root_tree a.nodes r)) (λ k. uses_maybe k (root_tree c.splice.new.self c.in-Ok-splice.next)) = c.in-Ok-splice.ensures.nodes in
     let nodes_is : a.nodes ≡ c.args.self.now.nodes = ap (λ h. h.nodes) c.self.view_is in
     let before : IsOnce a.nodes r = subst (λ (ts : List (Tree ℕ)). IsOnce ts r) (sym nodes_is) c.latest_root-root.ensures.once in
-    let zero_pins : 0 ≤ 128 = omega arith in
     let counted : length both.was.editions.items ≡ c.in-Ok.count = c.in-Ok.ensures.count both.was both.there in
     sound_gains a (record { names = a.names; courses = c.add_version.new.courses; nodes = c.splice.new.self; records = c.fill.new.records }) i (e ∷ []) refl both planted.kept
     (omega (arith, c.fill.ensures.len, c.count.ensures, c.fill.new.records.ok.0))
     (omega (arith, counted, small))
     (one_more (λ y. IsOnce c.splice.new.self y.root) e (once_new (length a.nodes) (length c.splice.new.self) c.splice.new.self c.in-Ok-splice.next (λ k. uses_maybe k (root_tree a.nodes r)) planted.within passes before.once))
-    (one_more (λ y. y.pins ≤ 128) e zero_pins)
+    (one_more (λ y. IsLife (version_of y)) e (fresh_life e.root))
     c.self.invariant
 
 pub returns-clause-spliced : goal.returns-clause-spliced
@@ -129,6 +130,7 @@ returns-clause-spliced g c =
     spliced a (record { names = a.names; courses = c.add_version.new.courses; nodes = c.splice.new.self; records = c.fill.new.records }) c.args.self.now i c.args.from c.args.to (c.in-Ok.count + 1) c.args.items.now e r refl both refl
     (c.fill.ensures.items ∙ ap (λ rs. rs ++ replicate (c.count.result - vec_len c.make_place.new.records) None) c.make_place.ensures.records ∙ ap (λ m. a.records.items ++ replicate m None) more)
     (c.latest_root-root.ensures.value ∙ ap (λ h. latest_root (slice_get h.circuits i)) (sym c.self.view_is))
+    c.in-Ok-splice.ensures.run
     planted
     passes
     c.in-Ok-splice.ensures.bound
