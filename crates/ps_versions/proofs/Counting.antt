@@ -1,19 +1,18 @@
 -- Counts over the segments of a tree.
-use Rattle.std.proofs.Common.{◌≡◌, ℕ, zero, suc, ◌+◌, ◌-◌, ◌*◌, ◌<◌, ◌≤◌, ◌⊎◌, inl, inr, List, [], ◌∷◌, ◌++◌, length, refl, sym, ap, ◌∙◌, subst, arith, length-append, Bool, true, false, cond, ◌&&◌, ◌||◌, not, eqb, append_assoc}
+use Rattle.std.proofs.Common.{◌≡◌, ℕ, ◌+◌, ◌*◌, ◌<◌, ◌≤◌, List, [], ◌∷◌, ◌++◌, length, refl, sym, ap, ◌∙◌, arith, length-append, Bool, true, false, cond, ◌||◌}
 use Rattle.std.specs.Prelude.{Option, Some, None, is_none}
 use Rattle.std.specs.List.{list_any, count_by}
 use Rattle.std.proofs.lemmas.List.Folds.{list_any-append}
 use Rattle.std.proofs.lemmas.List.Sums.{count_by-le-length}
 use Rattle.std.proofs.lemmas.List.Recursion.{is_count_by}
-use Rattle.std.proofs.lemmas.Bool.Decides.{nat_tests}
-use Rattle.seg_tree.specs.Trees.{Tree, leaf, branch, run, height, name_of}
+use Rattle.seg_tree.specs.Trees.{Tree, leaf, branch, name_of}
 use Rattle.seg_tree.specs.Measures.{leaves}
 use Rattle.seg_tree.specs.Seen.{Shows}
 use Rattle.seg_tree.specs.Table.{tree}
 use Rattle.seg_tree.specs.declared.node.Seen.{Seen}
 use Rattle.seg_tree.specs.declared.node.Seen.TheVariants as seen
 use Rattle.ps_versions.specs.Records.{record_at}
-use Rattle.ps_versions.specs.Questions.{segments, segments_maybe, lacks, lacks_by, missing_in, first_of, first_ready, behind}
+use Rattle.ps_versions.specs.Questions.{segments, lacks, lacks_by, missing_in, first_of, first_ready, behind}
 use Rattle.ps_versions.specs.Walks.{has_name, found, visited, walked, is_found, start, outcome}
 use Rattle.ps_versions.specs.declared.walks.Walk.{Walk}
 use Rattle.ps_versions.specs.declared.walks.Walk.TheVariants.{Seeking, Looking, Found}

@@ -1,9 +1,9 @@
 -- When versions stop being kept.
-use Rattle.std.proofs.Common.{◌≡◌, ℕ, zero, suc, ◌+◌, ◌-◌, ◌<◌, ◌≤◌, refl, sym, subst, arith, Bool, true, false, ◌||◌}
+use Rattle.std.proofs.Common.{◌≡◌, ℕ, zero, suc, ◌+◌, ◌-◌, ◌<◌, refl, sym, subst, arith, Bool, true, false, ◌||◌}
 use Rattle.std.specs.Prelude.{Option, Some, None, is_none, nat_lt}
 use Rattle.std.proofs.lemmas.Bool.Decides.{nat_tests}
 use Rattle.ps_versions.specs.Held.{Version}
-use Rattle.ps_versions.specs.Lives.{IsLife, is_kept, retired, pinned, unpinned, ended_where_free, ended_after}
+use Rattle.ps_versions.specs.Lives.{IsLife, retired, pinned, unpinned, ended_where_free, ended_after}
 use Rattle.ps_versions.specs.Opened.{fresh_version}
 
 pub fresh_life : (root : Option ℕ) → IsLife (fresh_version root)

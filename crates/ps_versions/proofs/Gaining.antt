@@ -1,27 +1,25 @@
 -- A circuit that gains versions.
-use Rattle.std.proofs.Common.{◌≡◌, ℕ, zero, suc, ◌+◌, ◌-◌, ◌*◌, ◌<◌, ◌≤◌, ◌⊎◌, inl, inr, max, List, [], ◌∷◌, ◌++◌, take, drop, length, replicate, set, get_or, refl, sym, ap, ◌∙◌, subst, arith, length-append, append-nil, append_assoc}
+use Rattle.std.proofs.Common.{◌≡◌, ℕ, zero, suc, ◌+◌, ◌-◌, ◌*◌, ◌<◌, ◌≤◌, max, List, [], ◌∷◌, ◌++◌, take, drop, length, replicate, set, refl, sym, ap, ◌∙◌, subst, arith, length-append, append-nil}
 use Rattle.std.specs.Prelude.{Option, Some, None, slice_get}
 use Rattle.std.proofs.lemmas.List.{length-set}
-use Rattle.std.proofs.lemmas.Option.{slice_get_within, slice_get_past}
 use Rattle.seg_tree.specs.Trees.{Tree, build, splice, run_maybe}
 use Rattle.seg_tree.specs.Measures.{uses_maybe, height_maybe}
-use Rattle.seg_tree.specs.Table.{tree, root_tree, IsRoot}
+use Rattle.seg_tree.specs.Table.{root_tree}
 use Rattle.seg_tree.specs.Growth.{Keeps, PlantsMaybe, Passes}
-use Rattle.ps_versions.specs.Held.{Held, Version, Circuit}
-use Rattle.ps_versions.specs.Lookup.{circuit_in, version_in, root_of, change_at}
+use Rattle.ps_versions.specs.Held.{Held, Circuit}
+use Rattle.ps_versions.specs.Lookup.{version_in, root_of, change_at}
 use Rattle.ps_versions.specs.Lives.{IsLife}
 use Rattle.ps_versions.specs.Records.{IsOnce}
 use Rattle.ps_versions.specs.Questions.{missing_in}
 use Rattle.ps_versions.specs.Opened.{fresh_version}
-use Rattle.ps_versions.specs.Spliced.{latest_of, latest_root, latest_tree, with_more, more_in, SplicesAt}
-use Rattle.ps_versions.specs.Gains.{Gains, HasRoom, HasCount}
+use Rattle.ps_versions.specs.Spliced.{latest_of, latest_root, latest_tree, with_more, SplicesAt}
+use Rattle.ps_versions.specs.Gains.{Gains, HasCount}
 use Rattle.ps_versions.specs.Views.{version_of, versions_of, circuit_of, circuits_of, kept_of, seen, IsSound}
-use Rattle.ps_versions.proofs.Lookups.{circuits-set, each_set, get-circuits, length-circuits, length-versions, get-versions, length-kept}
-use Rattle.ps_versions.proofs.Growths.{each_more, once_kept, kept_grown}
+use Rattle.ps_versions.proofs.Lookups.{circuits-set, each_set, get-circuits, length-versions, get-versions, length-kept}
+use Rattle.ps_versions.proofs.Growths.{once_kept, kept_grown}
 use Rattle.ps_versions.proofs.Weights.{few_missing}
 use Rattle.ps_versions.specs.declared.data.Edition.{Edition}
 use Rattle.ps_versions.specs.declared.data.Course.{Course}
-use Rattle.ps_versions.specs.declared.data.Stored.{Stored}
 use Rattle.ps_versions.specs.declared.versions.Versions.TheInside.{Inside}
 
 versions-append : (es fs : List Edition) → versions_of (es ++ fs) ≡ versions_of es ++ versions_of fs

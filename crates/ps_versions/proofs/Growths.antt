@@ -1,6 +1,6 @@
 -- How what is held grows by a circuit or a version.
-use Rattle.std.proofs.Common.{◌≡◌, ℕ, zero, suc, ◌+◌, ◌-◌, ◌<◌, ◌≤◌, ◌⊎◌, inl, inr, List, [], ◌∷◌, ◌++◌, length, replicate, set, get_or, refl, sym, ap, ◌∙◌, subst, arith, length-append, Bool, true, false, ◌||◌, nat_eq}
-use Rattle.std.specs.Prelude.{Option, Some, None, MatchOption, position, slice_get}
+use Rattle.std.proofs.Common.{◌≡◌, ℕ, zero, suc, ◌-◌, ◌<◌, ◌≤◌, ◌⊎◌, inl, inr, List, [], ◌∷◌, ◌++◌, length, replicate, get_or, refl, sym, ap, ◌∙◌, subst, arith, length-append, Bool, true, false, ◌||◌, nat_eq}
+use Rattle.std.specs.Prelude.{Option, Some, None, position, slice_get}
 use Rattle.std.specs.List.{list_any, position_or_len}
 use Rattle.std.specs.Cmp.Lexicographic.{pointwise}
 use Rattle.std.proofs.lemmas.Grind.{common_steps}
@@ -8,15 +8,15 @@ use Rattle.std.proofs.lemmas.List.Sums.{fails_before_first}
 use Rattle.std.proofs.lemmas.Option.{slice_get-get_or}
 use Rattle.seg_tree.specs.Trees.{Tree, build, run_maybe}
 use Rattle.seg_tree.specs.Measures.{uses_maybe}
-use Rattle.seg_tree.specs.Table.{tree, root_tree, IsRoot}
+use Rattle.seg_tree.specs.Table.{root_tree, IsRoot}
 use Rattle.seg_tree.specs.Growth.{Keeps, PlantsMaybe, Passes}
-use Rattle.ps_versions.specs.Held.{Held, Version, Circuit}
-use Rattle.ps_versions.specs.Lookup.{circuit_at, version_in, version_at, place_of}
+use Rattle.ps_versions.specs.Held.{Held, Circuit}
+use Rattle.ps_versions.specs.Lookup.{circuit_at, version_in, version_at}
 use Rattle.ps_versions.specs.Lives.{IsLife}
 use Rattle.ps_versions.specs.Records.{IsOnce}
 use Rattle.ps_versions.specs.Opened.{Opens, fresh_version}
 use Rattle.ps_versions.specs.Views.{version_of, versions_of, circuit_of, circuits_of, kept_of, seen, IsSound}
-use Rattle.ps_versions.proofs.Lookups.{place_found, place-fields, length-circuits}
+use Rattle.ps_versions.proofs.Lookups.{place_found, place-fields}
 use Rattle.ps_versions.proofs.Finding.{last_circuit}
 use Rattle.ps_versions.specs.declared.data.Edition.{Edition}
 use Rattle.ps_versions.specs.declared.data.Course.{Course}

@@ -1,9 +1,8 @@
 -- No tree of up to 65,536 items is higher than 32.
-use Rattle.std.proofs.Common.{◌≡◌, ℕ, zero, suc, ◌+◌, ◌-◌, ◌*◌, ◌^◌, ◌<◌, ◌≤◌, ◌⊎◌, inl, inr, List, [], ◌∷◌, length, take, drop, refl, sym, ap, ◌∙◌, subst, arith, length-take, length-drop}
-use Rattle.std.specs.Prelude.{Option, Some, None}
+use Rattle.std.proofs.Common.{◌≡◌, ℕ, zero, suc, ◌+◌, ◌-◌, ◌*◌, ◌^◌, ◌<◌, ◌≤◌, ◌⊎◌, inl, inr, List, [], ◌∷◌, length, take, drop, ap, arith, length-take, length-drop}
 use Rattle.std.proofs.Math.Nat.{pow-suc, mul-le-mul_left, mul-le-mul_right}
-use Rattle.seg_tree.specs.Trees.{Tree, leaf, branch, height, run, front_size, built, build}
-use Rattle.seg_tree.specs.Measures.{IsBalanced, leaves, height_maybe}
+use Rattle.seg_tree.specs.Trees.{Tree, height, front_size, built, build}
+use Rattle.seg_tree.specs.Measures.{leaves, height_maybe}
 use Rattle.seg_tree.proofs.Runs.{short_or, short_built, long_built, front_size-below, front_size-above}
 use Rattle.seg_tree.proofs.Built.{balanced-build}
 use Rattle.seg_tree.proofs.Steep.{steep}

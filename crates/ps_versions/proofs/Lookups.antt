@@ -1,11 +1,11 @@
 -- Circuits and versions as they lie in the fields.
-use Rattle.std.proofs.Common.{◌≡◌, ℕ, zero, suc, ◌+◌, ◌-◌, ◌<◌, ◌≤◌, List, [], ◌∷◌, length, set, get_or, refl, sym, ap, ◌∙◌, subst, arith, nat_eq, ◌⊎◌, inl, inr}
-use Rattle.std.specs.Prelude.{Option, Some, None, MatchOption, IsSome, map, position, slice_get, slice_index_or, slice_set}
+use Rattle.std.proofs.Common.{◌≡◌, ℕ, zero, suc, ◌-◌, ◌<◌, ◌≤◌, List, [], ◌∷◌, length, set, get_or, refl, sym, ap, ◌∙◌, subst, arith, nat_eq, ◌⊎◌, inl, inr}
+use Rattle.std.specs.Prelude.{Option, Some, None, MatchOption, IsSome, position, slice_get, slice_index_or, slice_set}
 use Rattle.std.specs.Cmp.Lexicographic.{pointwise}
 use Rattle.std.proofs.lemmas.List.Quantifiers.{position-Some}
 use Rattle.std.proofs.lemmas.Option.{slice_get_past}
 use Rattle.ps_versions.specs.Held.{Version, Circuit}
-use Rattle.ps_versions.specs.Lookup.{names_of, place_of, circuit_in, circuit_at, version_in, version_at, change_at}
+use Rattle.ps_versions.specs.Lookup.{names_of, place_of, circuit_in, circuit_at, version_in, change_at}
 use Rattle.ps_versions.specs.Lives.{IsLive, IsPinned}
 use Rattle.ps_versions.specs.Views.{version_of, versions_of, circuit_of, circuits_of, kept_of}
 use Rattle.ps_versions.specs.declared.data.Edition.{Edition}

@@ -1,5 +1,5 @@
 -- What is ready may be stored at.
-use Rattle.std.proofs.Common.{◌≡◌, ℕ, ◌<◌, List, length, refl, sym, ap, ◌∙◌, subst, Bool, true, false, not, ◌&&◌}
+use Rattle.std.proofs.Common.{◌≡◌, ℕ, ◌<◌, List, length, refl, sym, ap, ◌∙◌, Bool, true, false, not, ◌&&◌}
 use Rattle.std.specs.Prelude.{Option, Some, None, IfSome, is_none}
 use Rattle.seg_tree.specs.Trees.{Tree, leaf, branch, name_of}
 use Rattle.seg_tree.specs.Table.{tree}

@@ -1,8 +1,8 @@
 -- What is told of versions and circuits, read back.
-use Rattle.std.proofs.Common.{◌≡◌, ℕ, zero, suc, ◌+◌, ◌<◌, ◌≤◌, List, [], ◌∷◌, length, refl, sym, ap, ◌∙◌, subst, arith, Bool, true, false}
+use Rattle.std.proofs.Common.{◌≡◌, ℕ, ◌<◌, List, [], ◌∷◌, length, refl, sym, ap, arith, true}
 use Rattle.std.specs.Prelude.{Option, Some, None, IsSome, is_none}
-use Rattle.ps_versions.specs.Held.{Held, Version, Circuit}
-use Rattle.ps_versions.specs.Lookup.{place_of, circuit_at, version_in, version_at, root_of}
+use Rattle.ps_versions.specs.Held.{Version, Circuit}
+use Rattle.ps_versions.specs.Lookup.{place_of, circuit_at, version_in, root_of}
 use Rattle.ps_versions.specs.Lives.{IsLive, IsPinned, IsEarlier, HasFewPins}
 use Rattle.ps_versions.specs.Spliced.{latest_of, latest_root}
 use Rattle.ps_versions.specs.Told.{about, Tells}

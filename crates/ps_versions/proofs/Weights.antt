@@ -1,12 +1,12 @@
 -- A tree weighed by its names: how many segments keep nothing, as a sum over the names of a table.
-use Rattle.std.proofs.Common.{◌≡◌, ℕ, zero, suc, ◌+◌, ◌-◌, ◌<◌, ◌≤◌, ◌⊎◌, inl, inr, List, [], ◌∷◌, ◌++◌, length, replicate, refl, sym, ap, ◌∙◌, subst, arith, Bool, true, false, cond, eqb}
-use Rattle.std.specs.Prelude.{Option, Some, None, is_none, slice_index_or}
+use Rattle.std.proofs.Common.{◌≡◌, ℕ, zero, suc, ◌+◌, ◌<◌, ◌≤◌, ◌⊎◌, inl, inr, List, [], ◌∷◌, ◌++◌, length, replicate, refl, sym, ap, ◌∙◌, arith, Bool, true, false, cond}
+use Rattle.std.specs.Prelude.{Option, Some, None, is_none}
 use Rattle.std.proofs.lemmas.Bool.Decides.{nat_tests}
-use Rattle.seg_tree.specs.Trees.{Tree, leaf, branch, name_of}
+use Rattle.seg_tree.specs.Trees.{Tree, leaf, branch}
 use Rattle.seg_tree.specs.Measures.{is_name, uses, uses_maybe}
 use Rattle.seg_tree.specs.Growth.{Passes}
 use Rattle.ps_versions.specs.Records.{record_at}
-use Rattle.ps_versions.specs.Questions.{lacks, lacks_by, missing_in}
+use Rattle.ps_versions.specs.Questions.{lacks_by, missing_in}
 use Rattle.ps_versions.proofs.Counting.{missing_leaf, missing_branch}
 
 abbrev pub pick : Bool → ℕ → ℕ

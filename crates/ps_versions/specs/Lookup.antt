@@ -1,5 +1,5 @@
 -- Looking up circuits and versions.
-use Rattle.std.specs.Prelude.{ℕ, zero, suc, ◌-◌, Bool, nat_eq, List, [], ◌∷◌, map, position, Option, Some, None, slice_get}
+use Rattle.std.specs.Prelude.{ℕ, zero, suc, ◌-◌, nat_eq, List, [], ◌∷◌, map, position, Option, Some, None, slice_get}
 use Rattle.std.specs.Cmp.Lexicographic.{pointwise}
 use Rattle.ps_versions.specs.Held.{Version, Circuit}
 

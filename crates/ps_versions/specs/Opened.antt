@@ -3,7 +3,7 @@ use Rattle.std.specs.Prelude.{ℕ, ◌≡◌, ◌-◌, List, [], ◌∷◌, ◌+
 use Rattle.seg_tree.specs.Trees.{build, run_maybe}
 use Rattle.seg_tree.specs.Table.{root_tree}
 use Rattle.seg_tree.specs.Growth.{PlantsMaybe}
-use Rattle.ps_versions.specs.Held.{Held, Version, Circuit}
+use Rattle.ps_versions.specs.Held.{Held, Version}
 use Rattle.ps_versions.specs.Lookup.{version_at}
 
 -- a version that nothing has befallen

@@ -1,5 +1,5 @@
 -- What is asked of a version: its segments, how many keep nothing, whether it is settled, and which segments are ready.
-use Rattle.std.specs.Prelude.{ℕ, ◌≡◌, ◌<◌, length, Bool, true, false, cond, ◌&&◌, ◌||◌, not, is_none, eqb, List, [], ◌∷◌, ◌++◌, Option, Some, None}
+use Rattle.std.specs.Prelude.{ℕ, ◌≡◌, ◌<◌, length, Bool, true, false, cond, ◌&&◌, ◌||◌, not, is_none, List, [], ◌∷◌, ◌++◌, Option, Some, None}
 use Rattle.std.specs.List.{list_any, count_by}
 use Rattle.seg_tree.specs.Trees.{Tree, leaf, branch, name_of}
 use Rattle.seg_tree.specs.Table.{tree, root_tree}

@@ -1,5 +1,5 @@
 -- What nodes keep.
-use Rattle.std.specs.Prelude.{ℕ, ◌≡◌, ◌<◌, ◌≤◌, Bool, false, List, Option, Some, None, slice_index_or}
+use Rattle.std.specs.Prelude.{ℕ, ◌≡◌, ◌≤◌, Bool, false, List, Option, Some, None, slice_index_or}
 use Rattle.seg_tree.specs.Trees.{Tree, leaf, branch, name_of}
 use Rattle.seg_tree.specs.Measures.{uses_maybe}
 use Rattle.seg_tree.specs.Table.{root_tree, IsRoot}

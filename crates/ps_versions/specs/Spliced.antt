@@ -1,5 +1,5 @@
 -- What a splice does.
-use Rattle.std.specs.Prelude.{ℕ, ◌≡◌, ◌<◌, ◌≤◌, ◌+◌, ◌-◌, ◌*◌, max, List, [], ◌∷◌, ◌++◌, take, drop, Option, Some, None, length, replicate, slice_get, set}
+use Rattle.std.specs.Prelude.{ℕ, ◌≡◌, ◌≤◌, ◌+◌, ◌-◌, ◌*◌, max, List, [], ◌∷◌, ◌++◌, take, drop, Option, Some, None, length, replicate}
 use Rattle.seg_tree.specs.Trees.{Tree, build, splice, run_maybe}
 use Rattle.seg_tree.specs.Measures.{height_maybe}
 use Rattle.seg_tree.specs.Table.{root_tree}

@@ -1,5 +1,5 @@
 -- What is told of circuits and versions.
-use Rattle.std.specs.Prelude.{ℕ, ◌≡◌, Option, Some, None, length}
+use Rattle.std.specs.Prelude.{◌≡◌, Option, Some, None, length}
 use Rattle.ps_versions.specs.Held.{Version, Circuit}
 use Rattle.ps_versions.specs.declared.data.About.{About}
 use Rattle.ps_versions.specs.declared.data.State.{State}

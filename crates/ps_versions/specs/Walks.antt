@@ -1,6 +1,6 @@
 -- How far a walk over the segments of a tree has come.
-use Rattle.std.specs.Prelude.{ℕ, ◌≡◌, Bool, true, false, cond, eqb, List, [], ◌∷◌, ◌++◌, Option, Some, None}
-use Rattle.seg_tree.specs.Trees.{Tree, leaf, branch, name_of}
+use Rattle.std.specs.Prelude.{ℕ, Bool, true, false, cond, eqb, List, [], ◌∷◌, Option, Some, None}
+use Rattle.seg_tree.specs.Trees.{Tree, name_of}
 use Rattle.ps_versions.specs.declared.walks.Walk.{Walk}
 use Rattle.ps_versions.specs.declared.walks.Walk.TheVariants.{Seeking, Looking, Found}
 

@@ -311,14 +311,32 @@ fn edits_seventeen(rt: HostRuntime) -> Result<(), Fail> {
     };
     assert_eq!(rt; versions.circuit_of(name), Some(about));
     let items = [0, 1, 2, 3, 4, 5, 6, 7, 8, 9, 10, 11, 12, 13, 14, 15, 16];
-    assert_version(&rt, alloc, &versions, &first, 5, &items, &[8, 8, 1], &[0, 1, 3])?;
+    assert_version(
+        &rt,
+        alloc,
+        &versions,
+        &first,
+        5,
+        &items,
+        &[8, 8, 1],
+        &[0, 1, 3],
+    )?;
     assert_settled(&rt, &versions, &first, false);
     let order = keep_all(&rt, alloc, &mut versions, &first)?;
     assert_eq!(rt; order.as_slice(), [0, 1, 2, 3, 4].as_slice());
     assert_root_kept(&rt, &versions, &first);
     assert_eq!(rt; splice(&rt, &mut versions, name, 4, 5, 99)?, 2);
     let edited = [0, 1, 2, 3, 99, 5, 6, 7, 8, 9, 10, 11, 12, 13, 14, 15, 16];
-    assert_version(&rt, alloc, &versions, &second, 5, &edited, &[5, 3, 8, 1], &[5, 6, 8])?;
+    assert_version(
+        &rt,
+        alloc,
+        &versions,
+        &second,
+        5,
+        &edited,
+        &[5, 3, 8, 1],
+        &[5, 6, 8],
+    )?;
     assert_settled(&rt, &versions, &second, false);
     assert_version(&rt, alloc, &versions, &first, 0, &items, &[8, 8, 1], &[])?;
     assert_settled(&rt, &versions, &first, true);

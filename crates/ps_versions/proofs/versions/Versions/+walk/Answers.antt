@@ -1,8 +1,7 @@
-use Rattle.std.proofs.Common.{◌≡◌, Some, sym, ap, ◌∙◌, ℕ}
-use Rattle.seg_tree.specs.Trees.{Tree}
+use Rattle.std.proofs.Common.{Some, sym, ap, ◌∙◌}
 use Rattle.seg_tree.specs.Table.{tree}
 use Rattle.ps_versions.specs.Questions.{segments, is_ready}
-use Rattle.ps_versions.specs.Walks.{visited, walked, is_found}
+use Rattle.ps_versions.specs.Walks.{visited, walked}
 use Rattle.ps_versions.proofs.Counting.{walk_over, walk_branch}
 use Rattle.ps_versions.proofs.versions.Versions.+walk.Goals as goal
 

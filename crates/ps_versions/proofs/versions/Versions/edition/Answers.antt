@@ -1,7 +1,7 @@
-use Rattle.std.proofs.Common.{◌≡◌, ℕ, ◌-◌, ◌<◌, ◌≤◌, length, get_or, [], refl, sym, ap, ◌∙◌, subst, arith}
-use Rattle.std.specs.Prelude.{Option, Some, None, IsSome, slice_get, slice_index_or}
+use Rattle.std.proofs.Common.{◌≡◌, ◌-◌, ◌<◌, length, get_or, [], refl, sym, ap, ◌∙◌, subst, arith}
+use Rattle.std.specs.Prelude.{Some, IsSome, slice_get}
 use Rattle.std.proofs.lemmas.Option.{slice_get_read}
-use Rattle.ps_versions.specs.Lookup.{circuit_at, version_in, version_at}
+use Rattle.ps_versions.specs.Lookup.{circuit_at, version_in}
 use Rattle.ps_versions.specs.Records.{IsOnce}
 use Rattle.ps_versions.specs.Views.{circuit_of, version_of}
 use Rattle.ps_versions.proofs.Lookups.{length-circuits, get-circuits, length-versions, get-versions, version_there, version_read}

@@ -1,5 +1,5 @@
-use Rattle.std.proofs.Common.{◌≡◌, ◌≤◌, ◌<◌, ◌^◌, ◌*◌, ap, subst, arith, length, List, ℕ}
-use Rattle.seg_tree.specs.Trees.{Tree, run, height}
+use Rattle.std.proofs.Common.{◌≡◌, ◌≤◌, subst, arith, length, List, ℕ}
+use Rattle.seg_tree.specs.Trees.{Tree, run}
 use Rattle.seg_tree.specs.Measures.{leaves}
 use Rattle.seg_tree.specs.Table.{tree}
 use Rattle.ps_versions.specs.Questions.{segments}

@@ -1,4 +1,4 @@
-use Rattle.std.proofs.Common.{◌≡◌, length, ap, arith}
+use Rattle.std.proofs.Common.{length, ap, arith}
 use Rattle.ps_versions.proofs.Lookups.{length-kept}
 use Rattle.ps_versions.proofs.versions.Versions.nodes.Goals as goal
 

@@ -1,14 +1,8 @@
-use Rattle.std.proofs.Common.{◌≡◌, ℕ, ◌+◌, ◌-◌, ◌<◌, ◌≤◌, ◌++◌, List, [], ◌∷◌, length, replicate, refl, sym, ap, ◌∙◌, subst, arith, false, nat_eq}
-use Rattle.std.specs.Prelude.{Option, Some, None, vec_len}
+use Rattle.std.proofs.Common.{◌≡◌, ◌-◌, ◌++◌, [], ◌∷◌, length, replicate, refl, sym, ap, ◌∙◌, subst, arith, false, nat_eq}
+use Rattle.std.specs.Prelude.{None, vec_len}
 use Rattle.std.specs.List.{list_any}
 use Rattle.std.specs.Cmp.Lexicographic.{pointwise}
-use Rattle.seg_tree.specs.Trees.{build}
-use Rattle.seg_tree.specs.Table.{root_tree}
-use Rattle.seg_tree.specs.Growth.{PlantsMaybe}
-use Rattle.ps_versions.specs.Held.{Held}
 use Rattle.ps_versions.specs.Lookup.{circuit_at}
-use Rattle.ps_versions.specs.Opened.{Opens}
-use Rattle.ps_versions.specs.Views.{seen}
 use Rattle.ps_versions.proofs.Ends.{fresh_life}
 use Rattle.ps_versions.proofs.Growths.{absent, once_new, sound_same, sound_more, opened}
 use Rattle.ps_versions.specs.declared.data.Edition.{Edition}

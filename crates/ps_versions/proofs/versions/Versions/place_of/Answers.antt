@@ -1,6 +1,4 @@
-use Rattle.std.proofs.Common.{◌≡◌, nat_eq, length, ap, sym, ◌∙◌}
-use Rattle.std.specs.Prelude.{position}
-use Rattle.std.specs.Cmp.Lexicographic.{pointwise}
+use Rattle.std.proofs.Common.{ap, ◌∙◌}
 use Rattle.ps_versions.specs.Lookup.{place_of}
 use Rattle.ps_versions.proofs.Lookups.{place_found, place-fields}
 use Rattle.ps_versions.proofs.versions.Versions.place_of.Goals as goal

@@ -1,10 +1,9 @@
-use Rattle.std.proofs.Common.{◌≡◌, Some, None, sym, ap, subst, ◌∙◌, ℕ}
+use Rattle.std.proofs.Common.{◌≡◌, Some, sym, ap, subst, ◌∙◌, ℕ}
 use Rattle.std.specs.Prelude.{Option, IfSome}
-use Rattle.seg_tree.specs.Trees.{Tree}
 use Rattle.seg_tree.specs.Table.{tree, root_tree}
 use Rattle.ps_versions.specs.Lookup.{version_at, root_of}
 use Rattle.ps_versions.specs.Questions.{segments, segments_maybe, is_ready, first_ready, behind, IsStorable, FindsStorable}
-use Rattle.ps_versions.specs.Walks.{walked, start, outcome}
+use Rattle.ps_versions.specs.Walks.{walked, outcome}
 use Rattle.ps_versions.proofs.Counting.{gone}
 use Rattle.ps_versions.proofs.Storing.{start_storable, found_storable}
 use Rattle.ps_versions.proofs.versions.Versions.ready.Goals as goal

@@ -1,14 +1,12 @@
-use Rattle.std.proofs.Common.{◌≡◌, ℕ, ◌-◌, ◌<◌, ◌≤◌, length, set, get_or, [], refl, sym, ap, ◌∙◌, subst, arith}
-use Rattle.std.specs.Prelude.{Option, Some, None, IsSome, slice_get}
+use Rattle.std.proofs.Common.{◌≡◌, ℕ, ◌-◌, ◌<◌, length, get_or, [], refl, sym, ap, ◌∙◌, subst, arith}
+use Rattle.std.specs.Prelude.{Some, IsSome, slice_get}
 use Rattle.std.proofs.lemmas.Option.{slice_get_read}
 use Rattle.std.proofs.lemmas.List.{length-set}
-use Rattle.ps_versions.specs.Held.{Version, Circuit}
 use Rattle.ps_versions.specs.Lookup.{circuit_at, version_in, change_at, with_version, replaced_in}
 use Rattle.ps_versions.specs.Lives.{IsLife}
 use Rattle.ps_versions.specs.Records.{IsOnce}
 use Rattle.ps_versions.specs.Views.{circuit_of, version_of}
 use Rattle.ps_versions.specs.declared.data.Edition.{Edition}
-use Rattle.ps_versions.specs.declared.data.Course.{Course}
 use Rattle.ps_versions.proofs.Lookups.{length-circuits, get-circuits, length-versions, version_there, versions-set, circuits-set, each_set}
 use Rattle.ps_versions.proofs.versions.Versions.replace.Goals as goal
 

@@ -1,5 +1,5 @@
 use Rattle.std.proofs.Common.{◌≡◌, ℕ, ◌+◌, ◌-◌, ◌*◌, ◌<◌, ◌≤◌, ◌++◌, max, List, [], ◌∷◌, length, replicate, refl, sym, ap, ◌∙◌, subst, arith}
-use Rattle.std.specs.Prelude.{Option, Some, None, slice_get, vec_len, vec_capacity}
+use Rattle.std.specs.Prelude.{None, slice_get, vec_len}
 use Rattle.seg_tree.specs.Trees.{Tree, build, splice}
 use Rattle.seg_tree.specs.Measures.{height_maybe, uses_maybe}
 use Rattle.seg_tree.specs.Table.{root_tree}
@@ -15,7 +15,6 @@ use Rattle.ps_versions.proofs.Heights.{low-build}
 use Rattle.ps_versions.proofs.Growths.{once_new}
 use Rattle.ps_versions.proofs.Gaining.{gains_length, gains_then, sound_gains, no_more, one_more, keeps_all, keeps_same, seen_same, count_of, spliced}
 use Rattle.ps_versions.specs.declared.data.Edition.{Edition}
-use Rattle.ps_versions.specs.declared.data.Course.{Course}
 use Rattle.ps_versions.proofs.versions.Versions.splice_at.Goals as goal
 
 pub make_place-requires : goal.make_place-requires
