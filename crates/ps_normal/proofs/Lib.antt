@@ -5,3 +5,6 @@ pub mod Recording
 pub mod Pairs
 pub mod Finding
 pub mod TestRuns
+pub mod Holdings
+pub mod Ordered
+pub mod Settling
