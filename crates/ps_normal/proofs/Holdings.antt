@@ -41,19 +41,19 @@ on_sided b [] under u = u
 on_sided b (e ∷ es) under u = on_sided b es under u
 
 -- ---- the moves of a side
-moves_hold : {n : ℕ} {A B : List Prim} {es fs : List Placed} {ms : List Move} {under : List Entry} {ls : List Line} {S : PathSum} (b : Bool) → AllSided under → Replays n (side_of b A B) es ms fs
+moves_hold : {n : ℕ} {A B : List Prim} (b : Bool) (under : List Entry) {es fs : List Placed} {ms : List Move} {ls : List Line} {S : PathSum} → AllSided under → Replays n (side_of b A B) es ms fs
     → HoldsFrom n A B ls (on_all b fs under) S → HoldsFrom n A B (side_lines b ms ++ ls) (on_all b es under) S
 unfolding on on_all
-moves_hold b u done k = k
-moves_hold {es = es} {under = under} b u (leaf h e l r) k = line (holding.leaf (on_sided b es under u) h e l) (moves_hold b u r k)
-moves_hold b u (ident i r) k = line (holding.ident i) (moves_hold b u r k)
-moves_hold {under = under} b u (join {es = es} m f j r) k = line (holding.join (on_sided b es under u) m f j) (moves_hold b u r k)
-moves_hold b u (rewrite {r = run} {S = S} f t a r) k = line (holding.rewrite {e = sided b run S} f.applies t a) (moves_hold b u r k)
+moves_hold b under u done k = k
+moves_hold b under {es = es} u (leaf h e l r) k = line (holding.leaf (on_sided b es under u) h e l) (moves_hold b under u r k)
+moves_hold b under u (ident i r) k = line (holding.ident i) (moves_hold b under u r k)
+moves_hold b under u (join {es = es} m f j r) k = line (holding.join (on_sided b es under u) m f j) (moves_hold b under u r k)
+moves_hold b under u (rewrite {r = run} {S = S} f t a r) k = line (holding.rewrite {e = sided b run S} _ f.applies t a) (moves_hold b under u r k)
 
 -- ---- the steps of the overlap
 steps_hold : {n : ℕ} {A B : List Prim} {S T U : PathSum} {ss : List Step} {ls : List Line} → Reduces S ss T → HoldsFrom n A B ls (closed T ∷ []) U → HoldsFrom n A B (step_lines ss ++ ls) (closed S ∷ []) U
 steps_hold rest k = k
-steps_hold (step {S = S} f t a r) k = line (holding.rewrite {e = closed S} f.applies t a) (steps_hold r k)
+steps_hold (step {S = S} f t a r) k = line (holding.rewrite {e = closed S} _ f.applies t a) (steps_hold r k)
 
 overlap_fits : (S1 S2 S : PathSum) → IsOverlapOf S1 S2 S → OverlapFits S1 S2
 overlap_fits S1 S2 S o = omega (arith, o.qubits_are, o.overlaps.m_is, S.named)
@@ -61,8 +61,8 @@ overlap_fits S1 S2 S o = omega (arith, o.qubits_are, o.overlaps.m_is, S.named)
 -- ---- all lines
 pub lines_hold : {n : ℕ} {A B : List Prim} {ms1 ms2 : List Move} {S1 S2 S T : PathSum} {ss : List Step} → Reaches n A ms1 S1 → Reaches n B ms2 S2 → IsOverlapOf S1 S2 S → Reduces S ss T → Holds n A B (lines_by ms1 ms2 ss) T
 unfolding on on_all
-lines_hold {S1 = S1} {S2 = S2} {S = S} p q o r =
-    line holding.head (moves_hold false tt p (moves_hold {under = sided false (whole_run _) S1 ∷ []} true tt q (line (holding.overlap refl refl (overlap_fits S1 S2 S o) o) (steps_hold r (line holding.end over)))))
+lines_hold {A = A} {S1 = S1} {S2 = S2} {S = S} p q o r =
+    line holding.head (moves_hold false [] tt p (moves_hold true (sided false (whole_run A) S1 ∷ []) tt q (line (holding.overlap refl refl (overlap_fits S1 S2 S o) o) (steps_hold r (line holding.end over)))))
 
 -- ---- a comparison that found one map
 record Ends (n : ℕ) (A B : List Prim) (ls : List Line) : Type 0 where

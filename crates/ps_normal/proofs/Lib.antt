@@ -8,3 +8,4 @@ pub mod TestRuns
 pub mod Holdings
 pub mod Ordered
 pub mod Settling
+pub mod Derived

@@ -1,5 +1,5 @@
 -- What there is, it can be told: whether lines hold, and for which sum, takes no choice.
-use Rattle.std.proofs.Common.{◌≡◌, ℕ, zero, suc, ◌+◌, ◌<◌, ◌≤◌, ◌⊎◌, inl, inr, refl, ap, sym, ◌∙◌, subst, arith, Bool, true, false, nat_eq, Option, Some, None, List, [], ◌∷◌, length, get_or}
+use Rattle.std.proofs.Common.{◌≡◌, ℕ, zero, suc, ◌+◌, ◌<◌, ◌≤◌, ◌⊎◌, inl, inr, refl, ap, ap₂, sym, ◌∙◌, subst, arith, Bool, true, false, nat_eq, Option, Some, None, List, [], ◌∷◌, length, get_or}
 use mathlib.Core.Logic.{∥∥₁_elim, ∥∥₁_map}
 use mathlib.Core.HLevel.{is_prop→PathP}
 use mathlib.Core.Sum.{⊎_set}
@@ -45,10 +45,10 @@ pair_settles : {X Y : Type 0} → Settles X → Settles Y → Settles (X × Y)
 pair_settles s t w = (s (∥∥₁_map w (λ p. p.0)), t (∥∥₁_map w (λ p. p.1)))
 
 right_settles : {X Y : Type 0} → (X → ⊥) → Settles Y → Settles (X ⊎ Y)
-right_settles {X} {Y} no s w = inr (s (∥∥₁_map w right))
+right_settles {X} {Y} never s w = inr (s (∥∥₁_map w right))
   where
     right : X ⊎ Y → Y
-    right (inl x) = absurd (no x)
+    right (inl x) = absurd (never x)
     right (inr y) = y
 
 one_prop : {X : Type 0} (Q : X → Type 0) → ((x y : X) → Q x → Q y → x ≡ y) → ((x : X) → IsProp (Q x)) → IsProp ((x : X) × Q x)
@@ -194,12 +194,17 @@ fits_settle S1 S2 w = record {
 }
 
 -- ---- runs
+adjoined : {r1 r2 r : Run} (a b c d : ℕ) → Meets r1 r2 r → r1 ≡ span a b → r2 ≡ span c d → span a d ≡ r
+adjoined a b c d left_none p q = absurd (cc)
+adjoined a b c d right_none p q = absurd (cc)
+adjoined a b c d adjoin p q = ap₂ span (cc) (cc)
+
 meets_only : {r1 r2 r r' : Run} → Meets r1 r2 r → Meets r1 r2 r' → r ≡ r'
 meets_only left_none left_none = refl
 meets_only left_none right_none = refl
 meets_only right_none left_none = refl
 meets_only right_none right_none = refl
-meets_only adjoin adjoin = refl
+meets_only (adjoin {from = a} {middle = b} {to = c}) m = adjoined a b b c m refl refl
 
 abbrev Met : Run → Run → Type 0
 Met r1 r2 = (r : Run) × Meets r1 r2 r
@@ -226,7 +231,7 @@ meets_settles {r1} {r2} R s w = by (met r1 r2)
   where
     by : Met r1 r2 ⊎ (Met r1 r2 → ⊥) → (r : Run) × (Meets r1 r2 r × R r)
     by (inl k) = (k.0, (k.1, s k.0 (∥∥₁_map w (λ t. subst R (meets_only t.1.0 k.1) t.1.1))))
-    by (inr no) = absurd (∥∥₁_elim w (hlevel props) (λ t. no (t.0, t.1.0)))
+    by (inr never) = absurd (∥∥₁_elim w (hlevel props) (λ t. never (t.0, t.1.0)))
 
 -- ---- what each line wants of the list, and what R says of the list behind it
 abbrev OpenedJoin : (List Entry → Type 0) → List Entry → Type 0
@@ -272,54 +277,54 @@ opens R holding.head k = (refl, k)
 opens R (holding.leaf {g = g} {S = S} a h e l) k = (a, (g, ((h, e), (S, (l, k)))))
 opens R (holding.ident {S = S} i) k = (S, (i, k))
 opens R (holding.join {r = r} {S = S} a m f j) k = ((refl, a), (f, (r, (m, (S, (j, k))))))
-opens R (holding.rewrite {T = T} a f t) k = ((a, f), (T, (t, k)))
+opens R (holding.rewrite T a f t) k = ((a, f), (T, (t, k)))
 opens R (holding.overlap {S = S} p q f o) k = (((p, q), f), (S, (o, k)))
 opens R holding.end k = k
 
 Done : ℕ → List Prim → List Prim → (List Entry → Type 0) → Line → List Entry → Type 0
 Done n A B R l es = (fs : List Entry) × (Does n A B l es fs × R fs)
 
-join_closes : {n : ℕ} {A B : List Prim} (R : List Entry → Type 0) (es : List Entry) → OpenedJoin R es → Done n A B R Join es
+join_closes : (n : ℕ) (A B : List Prim) (R : List Entry → Type 0) (es : List Entry) → OpenedJoin R es → Done n A B R Join es
 unfolding Done
-join_closes R [] k = absurd k
-join_closes R (closed S ∷ es) k = absurd k
-join_closes R (sided b r S ∷ []) k = absurd k
-join_closes R (sided b r S ∷ closed S' ∷ es) k = absurd k
-join_closes {n} {A} {B} R (sided b r2 S2 ∷ sided c r1 S1 ∷ es) ((e, a), (f, (r, (m, (S, (j, k)))))) =
+join_closes n A B R [] k = absurd k
+join_closes n A B R (closed S ∷ es) k = absurd k
+join_closes n A B R (sided b r S ∷ []) k = absurd k
+join_closes n A B R (sided b r S ∷ closed S' ∷ es) k = absurd k
+join_closes n A B R (sided b r2 S2 ∷ sided c r1 S1 ∷ es) ((e, a), (f, (r, (m, (S, (j, k)))))) =
     (sided b r S ∷ es, (subst (λ d. Does n A B Join (sided b r2 S2 ∷ sided d r1 S1 ∷ es) (sided b r S ∷ es)) (sym e) (holding.join a m f j), k))
 
-rewrite_closes : {n : ℕ} {A B : List Prim} (R : List Entry → Type 0) (s : Step) (es : List Entry) → OpenedRewrite R s es → Done n A B R (Rewrite s) es
+rewrite_closes : (n : ℕ) (A B : List Prim) (R : List Entry → Type 0) (s : Step) (es : List Entry) → OpenedRewrite R s es → Done n A B R (Rewrite s) es
 unfolding Done
-rewrite_closes R s [] k = absurd k
-rewrite_closes R s (e ∷ es) ((a, f), (T, (t, k))) = (with_sum e T ∷ es, (holding.rewrite {e = e} a f t, k))
+rewrite_closes n A B R s [] k = absurd k
+rewrite_closes n A B R s (e ∷ es) ((a, f), (T, (t, k))) = (with_sum e T ∷ es, (holding.rewrite {e = e} T a f t, k))
 
-overlap_closes : {n : ℕ} (A B : List Prim) (R : List Entry → Type 0) (es : List Entry) → OpenedOverlap A B R es → Done n A B R Overlap es
+overlap_closes : (n : ℕ) (A B : List Prim) (R : List Entry → Type 0) (es : List Entry) → OpenedOverlap A B R es → Done n A B R Overlap es
 unfolding Done
-overlap_closes A B R [] k = absurd k
-overlap_closes A B R (closed S ∷ es) k = absurd k
-overlap_closes A B R (sided false r S ∷ es) k = absurd k
-overlap_closes A B R (sided true r S ∷ []) k = absurd k
-overlap_closes A B R (sided true r S ∷ closed S' ∷ es) k = absurd k
-overlap_closes A B R (sided true r S ∷ sided true r' S' ∷ es) k = absurd k
-overlap_closes A B R (sided true r2 S2 ∷ sided false r1 S1 ∷ []) (((p, q), f), (S, (o, k))) = (closed S ∷ [], (holding.overlap p q f o, k))
-overlap_closes A B R (sided true r2 S2 ∷ sided false r1 S1 ∷ e ∷ es) k = absurd k
+overlap_closes n A B R [] k = absurd k
+overlap_closes n A B R (closed S ∷ es) k = absurd k
+overlap_closes n A B R (sided false r S ∷ es) k = absurd k
+overlap_closes n A B R (sided true r S ∷ []) k = absurd k
+overlap_closes n A B R (sided true r S ∷ closed S' ∷ es) k = absurd k
+overlap_closes n A B R (sided true r S ∷ sided true r' S' ∷ es) k = absurd k
+overlap_closes n A B R (sided true r2 S2 ∷ sided false r1 S1 ∷ []) (((p, q), f), (S, (o, k))) = (closed S ∷ [], (holding.overlap p q f o, k))
+overlap_closes n A B R (sided true r2 S2 ∷ sided false r1 S1 ∷ e ∷ es) k = absurd k
 
-end_closes : {n : ℕ} {A B : List Prim} (R : List Entry → Type 0) (es : List Entry) → OpenedEnd R es → Done n A B R End es
+end_closes : (n : ℕ) (A B : List Prim) (R : List Entry → Type 0) (es : List Entry) → OpenedEnd R es → Done n A B R End es
 unfolding Done
-end_closes R [] k = absurd k
-end_closes R (sided b r S ∷ es) k = absurd k
-end_closes R (closed S ∷ []) k = (closed S ∷ [], (holding.end, k))
-end_closes R (closed S ∷ e ∷ es) k = absurd k
+end_closes n A B R [] k = absurd k
+end_closes n A B R (sided b r S ∷ es) k = absurd k
+end_closes n A B R (closed S ∷ []) k = (closed S ∷ [], (holding.end, k))
+end_closes n A B R (closed S ∷ e ∷ es) k = absurd k
 
-closes : {n : ℕ} {A B : List Prim} (R : List Entry → Type 0) (l : Line) (es : List Entry) → Opened n A B R l es → Done n A B R l es
+closes : (n : ℕ) (A B : List Prim) (R : List Entry → Type 0) (l : Line) (es : List Entry) → Opened n A B R l es → Done n A B R l es
 unfolding Done
-closes {n} {A} {B} R (Head v) es (e, k) = (es, (subst (λ u. Does n A B (Head u) es es) (sym e) holding.head, k))
-closes R (Leaf b i) es (a, (g, ((h, e), (S, (l, k))))) = (sided b (span i (i + 1)) S ∷ es, (holding.leaf a h e l, k))
-closes R (Id b) es (S, (i, k)) = (sided b none S ∷ es, (holding.ident i, k))
-closes R Join es k = join_closes R es k
-closes R (Rewrite s) es k = rewrite_closes R s es k
-closes {n} {A} {B} R Overlap es k = overlap_closes A B R es k
-closes R End es k = end_closes R es k
+closes n A B R (Head v) es (e, k) = (es, (subst (λ u. Does n A B (Head u) es es) (sym e) holding.head, k))
+closes n A B R (Leaf b i) es (a, (g, ((h, e), (S, (l, k))))) = (sided b (span i (i + 1)) S ∷ es, (holding.leaf a h e l, k))
+closes n A B R (Id b) es (S, (i, k)) = (sided b none S ∷ es, (holding.ident i, k))
+closes n A B R Join es k = join_closes n A B R es k
+closes n A B R (Rewrite s) es k = rewrite_closes n A B R s es k
+closes n A B R Overlap es k = overlap_closes n A B R es k
+closes n A B R End es k = end_closes n A B R es k
 
 -- ---- and it can be told
 all_sided_prop : (es : List Entry) → IsProp (AllSided es)
@@ -416,18 +421,18 @@ unfolding HoldsWith Ended
 holds_opens P over p = p
 holds_opens {n} {A} {B} P (line {ls = ls} d h) p = opens (HoldsWith n A B P ls) d (holds_opens P h p)
 
-ended_closes : {n : ℕ} {A B : List Prim} (P : PathSum → Type 0) (es : List Entry) → Ended P es → Sums n A B P [] es
+ended_closes : (n : ℕ) (A B : List Prim) (P : PathSum → Type 0) (es : List Entry) → Ended P es → Sums n A B P [] es
 unfolding Ended Sums
-ended_closes P [] k = absurd k
-ended_closes P (sided b r S ∷ es) k = absurd k
-ended_closes P (closed S ∷ []) k = (S, (over, k))
-ended_closes P (closed S ∷ e ∷ es) k = absurd k
+ended_closes n A B P [] k = absurd k
+ended_closes n A B P (sided b r S ∷ es) k = absurd k
+ended_closes n A B P (closed S ∷ []) k = (S, (over, k))
+ended_closes n A B P (closed S ∷ e ∷ es) k = absurd k
 
 holds_closes : (n : ℕ) (A B : List Prim) (P : PathSum → Type 0) (ls : List Line) (es : List Entry) → HoldsWith n A B P ls es → Sums n A B P ls es
 unfolding HoldsWith Sums Done
-holds_closes n A B P [] es k = ended_closes P es k
+holds_closes n A B P [] es k = ended_closes n A B P es k
 holds_closes n A B P (l ∷ ls) es k =
-    let d = closes {n} {A} {B} (HoldsWith n A B P ls) l es k in
+    let d = closes n A B (HoldsWith n A B P ls) l es k in
     let h = holds_closes n A B P ls d.0 d.1.1 in
     (h.0, (line d.1.0 h.1.0, h.1.1))
 
@@ -435,6 +440,6 @@ unit_prop : (S : PathSum) → IsProp (IsUnit S)
 unit_prop S = hlevel props
 
 -- that lines hold and come to the sum 1 can be told
-pub told_unit : (n : ℕ) (A B : List Prim) (ls : List Line) → ∥ (S : PathSum) × (Holds n A B ls S × IsUnit S) ∥₁ → (S : PathSum) × (Holds n A B ls S × IsUnit S)
+pub told_unit : (n : ℕ) (A B : List Prim) (ls : List Line) → ∥ ((S : PathSum) × (Holds n A B ls S × IsUnit S)) ∥₁ → ((S : PathSum) × (Holds n A B ls S × IsUnit S))
 unfolding Sums
 told_unit n A B ls w = holds_closes n A B IsUnit ls [] (holds_settles n A B IsUnit (λ S. prop_settles (unit_prop S)) ls [] (∥∥₁_map w (λ t. holds_opens IsUnit t.1.0 t.1.1)))

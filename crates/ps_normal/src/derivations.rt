@@ -65,7 +65,7 @@ pub fn derive(alloc: Global, judged: &Judged) -> Result<Derivation, AllocError>
     // The lines are those of the two records and of the comparison, and of nothing else.
     ensures lines { IfOk result (λ d. d.lines ≡ derivation_of judged.now) }
     // All of them hold for the runs of the two records, and the last sum is the sum 1.
-    ensures holds { IfOk result (λ d. ∥ Derives judged.now d.lines ∥₁) }
+    ensures holds { IfOk result (λ d. Derives judged.now d.lines) }
 {
     let _first = judged.first.items.as_slice();
     let _second = judged.second.items.as_slice();
