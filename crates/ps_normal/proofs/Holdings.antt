@@ -1,20 +1,16 @@
 -- The lines of moves and steps hold.
-use Rattle.std.proofs.Common.{◌≡◌, ℕ, ◌+◌, ◌≤◌, refl, ap, sym, ◌∙◌, subst, arith, Bool, true, false, List, [], ◌∷◌, ◌++◌, map}
+use Rattle.std.proofs.Common.{◌≡◌, ℕ, refl, sym, subst, arith, Bool, true, false, List, [], ◌∷◌, ◌++◌}
 use mathlib.Core.Logic.{∥∥₁_elim, ∥∥₁_map}
-use Rattle.std.specs.declared.sync.Arc.{Arc}
-use Rattle.std.specs.declared.alloc.Global.{Global}
 use Rattle.ps_prim.specs.declared.prims.Primitive.{Primitive as Prim}
 use Rattle.ps_sum.specs.declared.sums.PathSum.{PathSum}
 use Rattle.ps_rules.specs.declared.steps.Step.{Step}
 use Rattle.ps_rules.specs.declared.steps.Move.{Move}
 use Rattle.ps_overlap.specs.Overlapping.{IsOverlapOf}
 use Rattle.ps_steps.specs.declared.lines.Line.{Line}
-use Rattle.ps_steps.specs.declared.lines.Line.TheVariants.{Head, Overlap, End}
 use Rattle.ps_steps.specs.Holding.{Entry, sided, closed, side_of, AllSided, OverlapFits, HoldsFrom, over, line, Holds}
 use Rattle.ps_steps.specs.Holding as holding
 use Rattle.ps_reach.specs.declared.evidence.Body.{Body}
 use Rattle.ps_reach.specs.declared.evidence.Body.TheVariants as body
-use Rattle.ps_reach.specs.declared.record.Record.{Record}
 use Rattle.ps_reach.specs.declared.judged.Judged.{Judged}
 use Rattle.ps_reach.specs.declared.verdict.Verdict.TheVariants as verdict
 use Rattle.ps_reach.specs.Runs.{run_of}
@@ -24,7 +20,7 @@ use Rattle.ps_reach.specs.Replays.{Entry as Placed}
 use Rattle.ps_reach.specs.Parts.{IsRight, outcome_by}
 use Rattle.ps_reach.specs.Findings.{yes, IsUnit, Shows, unit, Overlaps, shows, Compares, sums}
 use Rattle.ps_reach.specs.Judging.{outcome_of, finding_of, IsJudged}
-use Rattle.ps_normal.specs.Deriving.{line_of, side_lines, step_lines, lines_by, derivation_of, Derives}
+use Rattle.ps_normal.specs.Deriving.{side_lines, step_lines, lines_by, derivation_of, Derives}
 
 -- ---- the entries of one side
 on : Bool → Placed → Entry

@@ -1,5 +1,5 @@
 -- The lines of a comparison stand in the order of a derivation.
-use Rattle.std.proofs.Common.{◌≡◌, ℕ, ◌+◌, ◌<◌, ◌≤◌, refl, ap, sym, ◌∙◌, subst, arith, Bool, true, false, ◌&&◌, nat_lt, List, [], ◌∷◌, ◌++◌, map, length}
+use Rattle.std.proofs.Common.{◌≡◌, ℕ, ◌<◌, ◌≤◌, refl, sym, subst, arith, Bool, true, false, nat_lt, List, [], ◌∷◌, ◌++◌, length}
 use mathlib.Core.Logic.{∥∥₁_elim}
 use Rattle.std.proofs.Props.{props}
 use Rattle.std.proofs.lemmas.Bool.{and_from}
@@ -11,7 +11,7 @@ use Rattle.ps_rules.specs.declared.steps.Step.TheVariants.{Elim, Hh, Omega}
 use Rattle.ps_rules.specs.declared.steps.Move.{Move}
 use Rattle.ps_rules.specs.Rules.{Applies}
 use Rattle.ps_steps.specs.declared.lines.Line.{Line}
-use Rattle.ps_steps.specs.declared.lines.Line.TheVariants.{Head, Leaf, Overlap, End}
+use Rattle.ps_steps.specs.declared.lines.Line.TheVariants.{Head, Overlap, End}
 use Rattle.ps_steps.specs.Steps.{is_head, is_inner, is_end, is_step, goes_on, is_beginning, is_ended, is_derivation}
 use Rattle.ps_reach.specs.declared.evidence.Body.{Body}
 use Rattle.ps_reach.specs.declared.evidence.Body.TheVariants as body
@@ -22,8 +22,8 @@ use Rattle.ps_reach.specs.Reductions.{Reduces, rest, step}
 use Rattle.ps_reach.specs.Replays.{Entry, Replays, done, leaf, ident, join, rewrite}
 use Rattle.ps_reach.specs.Parts.{IsRight, outcome_by}
 use Rattle.ps_reach.specs.Findings.{yes, Overlaps, shows, Compares, sums}
-use Rattle.ps_reach.specs.Judging.{outcome_of, finding_of, IsJudged}
-use Rattle.ps_normal.specs.Deriving.{line_of, side_lines, step_lines, lines_by, derivation_of}
+use Rattle.ps_reach.specs.Judging.{outcome_of, finding_of}
+use Rattle.ps_normal.specs.Deriving.{side_lines, step_lines, lines_by, derivation_of}
 use Rattle.ps_normal.proofs.Finding.{items_few}
 
 -- ---- lines between head and end

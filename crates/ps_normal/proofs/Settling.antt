@@ -1,5 +1,5 @@
 -- What there is, it can be told: whether lines hold, and for which sum, takes no choice.
-use Rattle.std.proofs.Common.{◌≡◌, ℕ, zero, suc, ◌+◌, ◌<◌, ◌≤◌, ◌⊎◌, inl, inr, refl, ap, ap₂, sym, ◌∙◌, subst, arith, Bool, true, false, nat_eq, Option, Some, None, List, [], ◌∷◌, length, get_or}
+use Rattle.std.proofs.Common.{◌≡◌, ℕ, zero, suc, ◌+◌, ◌<◌, ◌⊎◌, inl, inr, refl, ap₂, sym, ◌∙◌, subst, arith, Bool, true, false, nat_eq, Option, Some, None, List, [], ◌∷◌, length, get_or}
 use mathlib.Core.Logic.{∥∥₁_elim, ∥∥₁_map}
 use mathlib.Core.HLevel.{is_prop→PathP}
 use mathlib.Core.Sum.{⊎_set}
@@ -11,7 +11,7 @@ use Rattle.ps_bool.specs.Polys.{IsPoly}
 use Rattle.ps_bool.proofs.Unique.{one_form}
 use Rattle.ps_mono.specs.Sets.{stands}
 use Rattle.ps_phase.specs.declared.terms.Term.{Term}
-use Rattle.ps_phase.specs.Phases.{IsPhasePoly, coefficient}
+use Rattle.ps_phase.specs.Phases.{IsPhasePoly}
 use Rattle.ps_phase.proofs.Unique.{same_terms}
 use Rattle.ps_prim.specs.declared.prims.Primitive.{Primitive as Prim}
 use Rattle.ps_prim.specs.declared.prims.Primitive.TheVariants.{U, Cx}
@@ -21,9 +21,9 @@ use Rattle.ps_sum.specs.Counts.{raw_phase, raw_bool}
 use Rattle.ps_rules.specs.declared.steps.Step.{Step}
 use Rattle.ps_rules.specs.declared.steps.Step.TheVariants.{Elim, Hh, Omega}
 use Rattle.ps_rules.specs.Terms.{EachWith, IsHalf, both}
-use Rattle.ps_rules.specs.Rules.{IsInner, ElimApplies, HhApplies, OmegaApplies, Applies, Applied, IsStepPoly, NoneAbove, FitsAt, StepFits, step_counts}
+use Rattle.ps_rules.specs.Rules.{IsInner, HhApplies, OmegaApplies, Applies, Applied, NoneAbove, FitsAt, StepFits, step_counts}
 use Rattle.ps_rules.proofs.Only.{applied_only}
-use Rattle.ps_join.specs.Joining.{IsLeafOf, IsIdentityOf, IsJoinOf, JoinFits, PhaseAfter, BoolAfter, told, Chain, PhaseNamed, BoolNamed, PhaseChain, OutputChain, OutputChains, Then, JoinChain, named_count}
+use Rattle.ps_join.specs.Joining.{IsLeafOf, IsIdentityOf, IsJoinOf, JoinFits, PhaseAfter, BoolAfter, Chain, PhaseNamed, BoolNamed, PhaseChain, OutputChain, OutputChains, Then}
 use Rattle.ps_join.proofs.Only.{leaf_only, identity_only, join_only}
 use Rattle.ps_overlap.specs.Overlapping.{IsOverlapOf}
 use Rattle.ps_overlap.proofs.Overlapped.{overlap_only}

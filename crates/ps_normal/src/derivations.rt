@@ -67,6 +67,7 @@ pub fn derive(alloc: Global, judged: &Judged) -> Result<Derivation, AllocError>
     // All of them hold for the runs of the two records, and the last sum is the sum 1.
     ensures holds { IfOk result (λ d. Derives judged.now d.lines) }
 {
+    // How large items are: the prims of a side are fewer than 2^32.
     let _first = judged.first.items.as_slice();
     let _second = judged.second.items.as_slice();
     let lines = lines(alloc, judged)?;
