@@ -1,12 +1,12 @@
 -- The lines of a derivation up to some line, and what they lead to.
-use Rattle.std.proofs.Common.{◌≡◌, ℕ, zero, suc, ◌+◌, ◌<◌, ◌≤◌, refl, ap, sym, ◌∙◌, subst, arith, Bool, true, false, List, [], ◌∷◌, ◌++◌, length, get_or, take, drop, append_assoc}
+use Rattle.std.proofs.Common.{◌≡◌, ℕ, zero, suc, ◌+◌, ◌<◌, ◌≤◌, refl, ap, sym, ◌∙◌, subst, arith, true, false, List, [], ◌∷◌, ◌++◌, length, get_or, take, drop}
 use Rattle.std.proofs.lemmas.Bool.{and_parts}
 use Rattle.std.proofs.lemmas.List.{take_more, take_all, get_or_default}
 use Rattle.ps_prim.specs.declared.prims.Primitive.{Primitive as Prim}
 use Rattle.ps_sum.specs.declared.sums.PathSum.{PathSum}
 use Rattle.ps_steps.specs.declared.lines.Line.{Line}
 use Rattle.ps_steps.specs.declared.lines.Line.TheVariants as line
-use Rattle.ps_steps.specs.Steps.{is_head, is_inner, is_end, goes_on, is_beginning, is_ended, is_derivation}
+use Rattle.ps_steps.specs.Steps.{is_end, goes_on, is_beginning, is_ended, is_derivation}
 use Rattle.ps_steps.specs.Spelled.{is_line, may_stand}
 use Rattle.ps_steps.specs.Texts.{lines_text, line_text, IsText}
 use Rattle.ps_steps.specs.Holding.{Entry, closed, Does, end, HoldsFrom, over, line as onward, Holds}
@@ -15,7 +15,7 @@ use Rattle.ps_steps.proofs.Ordering.{standing_line, goes_first, goes_rest}
 use Rattle.ps_replay.specs.declared.replayed.Why.{Why}
 use Rattle.ps_replay.specs.declared.replayed.Replayed.TheVariants.{Rejected}
 use Rattle.ps_replay.specs.Failing.{Fails, FailsFrom, here, later}
-use Rattle.ps_replay.specs.Replaying.{Ends, fails, holds}
+use Rattle.ps_replay.specs.Replaying.{Ends, fails}
 
 -- the lines lead from these entries to those
 pub data Leads (n : ℕ) (A B : List Prim) : List Line → List Entry → List Entry → Type 0 where

@@ -1,31 +1,26 @@
 -- A line does one thing or fails for one reason, and a text comes to one answer.
-use Rattle.std.proofs.Common.{◌≡◌, ℕ, suc, zero, ◌+◌, ◌<◌, ◌≤◌, refl, ap, ap₂, sym, ◌∙◌, subst, arith, Bool, true, false, List, [], ◌∷◌, length, get_or, Result, Ok, Err, ◌⊎◌, inl, inr}
+use Rattle.std.proofs.Common.{◌≡◌, ℕ, ◌+◌, ◌<◌, refl, ap, ap₂, sym, ◌∙◌, subst, arith, Bool, List, [], ◌∷◌, length, get_or, Result, Ok, Err, ◌⊎◌, inl, inr}
 use Rattle.std.proofs.lemmas.List.{get_or_default}
 use Rattle.ps_prim.specs.declared.prims.Primitive.{Primitive as Prim}
 use Rattle.ps_sum.specs.declared.sums.PathSum.{PathSum}
 use Rattle.ps_sum.specs.declared.faults.Passed.{Passed}
-use Rattle.ps_rules.specs.declared.steps.Step.{Step}
-use Rattle.ps_rules.specs.Rules.{Applies, StepFits, StepPasses, Applied}
 use Rattle.ps_rules.proofs.Only.{applied_only}
 use Rattle.ps_rules.proofs.Limits.{passes_not_fits}
-use Rattle.ps_join.specs.Joining.{IsLeafOf, IsIdentityOf, IsJoinOf, JoinFits, JoinPasses}
+use Rattle.ps_join.specs.Joining.{IsLeafOf, IsJoinOf, JoinFits, JoinPasses}
 use Rattle.ps_join.proofs.Only.{leaf_only, identity_only, join_only, fits_or_passes}
-use Rattle.ps_overlap.specs.Overlapping.{IsOverlapOf, OverlapPasses}
 use Rattle.ps_overlap.proofs.Overlapped.{overlap_only}
-use Rattle.ps_reach.specs.Findings.{IsUnit}
-use Rattle.ps_reach.specs.Replays.{Run, none, span, Meets, left_none, right_none, adjoin, whole_run}
+use Rattle.ps_reach.specs.Replays.{Run, none, span, Meets, left_none, right_none, adjoin}
 use Rattle.ps_steps.specs.declared.lines.Line.{Line}
 use Rattle.ps_steps.specs.declared.lines.Line.TheVariants as line
 use Rattle.ps_steps.specs.declared.fault.StepFault.{StepFault}
 use Rattle.ps_steps.specs.declared.fault.StepFault.TheVariants as fault
-use Rattle.ps_steps.specs.Texts.{IsReading}
-use Rattle.ps_steps.specs.Holding.{Entry, sided, closed, side_of, AllSided, with_sum, sum_of, OverlapFits, Does, head, leaf, ident, join, rewrite, overlap, end, HoldsFrom, over, line as onward, Holds}
+use Rattle.ps_steps.specs.Holding.{Entry, sided, closed, side_of, AllSided, with_sum, sum_of, Does, head, leaf, ident, join, rewrite, overlap, end, HoldsFrom, over, line as onward}
 use Rattle.ps_steps.proofs.Deciding.{one_reading}
 use Rattle.ps_replay.specs.declared.replayed.Why.{Why}
-use Rattle.ps_replay.specs.declared.replayed.Why.TheVariants.{Order, Redex, Limit, Form, Cut}
+use Rattle.ps_replay.specs.declared.replayed.Why.TheVariants.{Order, Limit, Form, Cut}
 use Rattle.ps_replay.specs.declared.replayed.Replayed.{Replayed}
-use Rattle.ps_replay.specs.declared.replayed.Replayed.TheVariants.{Accepted, Left, Rejected}
-use Rattle.ps_replay.specs.Failing.{CanJoin, two, AreWhole, both, IsAlone, alone, Fails, leaf_closed, leaf_beyond, no_join, join_passes, no_sum, no_redex, step_passes, not_whole, overlap_passes, not_alone, FailsFrom, here, later}
+use Rattle.ps_replay.specs.declared.replayed.Replayed.TheVariants.{Rejected}
+use Rattle.ps_replay.specs.Failing.{CanJoin, two, both, alone, Fails, leaf_closed, leaf_beyond, no_join, join_passes, no_sum, no_redex, step_passes, not_whole, overlap_passes, not_alone, FailsFrom, here, later}
 use Rattle.ps_replay.specs.Replaying.{Tells, unit, other, Ends, fails, holds, Replays, misformed, cut_off, read}
 
 -- ---- runs

@@ -1,7 +1,7 @@
 -- What each entry denotes, and that an accepted derivation shows that two lists are one map.
 use Rattle.std.proofs.Common.{◌≡◌, ℕ, ◌+◌, ◌*◌, ◌<◌, ◌≤◌, ◌%◌, refl, ap, sym, ◌∙◌, subst, arith, Bool, true, false, List, [], ◌∷◌, ◌++◌, length, get_or, length-append}
 use Rattle.std.proofs.lemmas.Int.{ints}
-use Rattle.std.specs.Prelude.{pos, negsuc, ◌-ℤ◌, ◌+ℤ◌, ◌≤ℤ◌}
+use Rattle.std.specs.Prelude.{pos, negsuc, ◌-ℤ◌, ◌≤ℤ◌}
 use Rattle.ps_ring.specs.Truths.{Truths, bit}
 use Rattle.ps_ring.specs.Joins.{OverlapSum}
 use Rattle.ps_ring.proofs.Turned.{one_number}

@@ -1,5 +1,5 @@
 -- The entries of sums that are held, and what each line makes of them.
-use Rattle.std.proofs.Common.{◌≡◌, ◌≢◌, ℕ, zero, suc, ◌+◌, ◌<◌, ◌≤◌, refl, ap, ap₂, sym, ◌∙◌, subst, arith, Bool, true, false, List, [], ◌∷◌, ◌++◌, length, get_or, length-append}
+use Rattle.std.proofs.Common.{◌≡◌, ◌≢◌, ℕ, ◌+◌, ◌<◌, ◌≤◌, refl, ap, ap₂, sym, ◌∙◌, subst, arith, Bool, true, false, List, [], ◌∷◌, ◌++◌, length, get_or, length-append}
 use Rattle.std.proofs.lemmas.Int.{ints}
 use Rattle.std.specs.Prelude.{pos, negsuc, ◌+ℤ◌, ◌≤ℤ◌, Option, Some, None, IsTrue, not}
 use Rattle.ps_prim.specs.declared.prims.Primitive.{Primitive as Prim}
@@ -16,7 +16,7 @@ use Rattle.ps_sum.specs.declared.faults.JoinFault.TheVariants as made
 use Rattle.ps_overlap.specs.Faults.{IsOverlapFault}
 use Rattle.ps_overlap.specs.Overlapping.{IsOverlapOf, OverlapPasses}
 use Rattle.ps_reach.specs.Findings.{IsUnit}
-use Rattle.ps_reach.specs.Replays.{Run, none, span, Meets, left_none, right_none, adjoin, whole_run}
+use Rattle.ps_reach.specs.Replays.{Run, span, Meets, left_none, right_none, adjoin, whole_run}
 use Rattle.ps_steps.specs.declared.lines.Line.{Line}
 use Rattle.ps_steps.specs.declared.lines.Line.TheVariants as line
 use Rattle.ps_steps.specs.Holding.{Entry, sided, closed, side_of, AllSided, with_sum, sum_of, OverlapFits, Does, head, leaf, ident, join, rewrite, overlap, end}
@@ -29,7 +29,7 @@ use Rattle.ps_replay.specs.declared.replayed.Why.{Why}
 use Rattle.ps_replay.specs.declared.replayed.Why.TheVariants.{Order, Redex, Limit}
 use Rattle.ps_replay.specs.declared.replayed.Replayed.TheVariants.{Accepted, Left}
 use Rattle.ps_replay.specs.Replaying.{Tells, unit, other}
-use Rattle.ps_replay.specs.Failing.{CanJoin, two, AreWhole, both, IsAlone, alone, Fails, leaf_closed, leaf_beyond, no_join, join_passes, no_sum, no_redex, step_passes, not_whole, overlap_passes, not_alone}
+use Rattle.ps_replay.specs.Failing.{CanJoin, two, AreWhole, both, IsAlone, alone, Fails, leaf_beyond, no_join, join_passes, no_sum, no_redex, step_passes, not_whole, overlap_passes, not_alone}
 use Rattle.ps_replay.specs.Places.{run_of, placed, entry_of, stack, MeetAt, IsTogether, IsWholeSide}
 use Rattle.ps_replay.specs.Stacks.{Takes, IsUsable, CanTake, AllCanTake, SidedAbove, IsOrderly}
 

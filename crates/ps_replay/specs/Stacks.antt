@@ -1,8 +1,7 @@
 -- What the entries are while a derivation is replayed, and what one line makes of them.
-use Rattle.std.specs.Prelude.{ℕ, ◌≡◌, ◌<◌, ◌≤◌, Bool, List, [], ◌∷◌, Option, Some, None, length, pos, negsuc, ◌≤ℤ◌}
+use Rattle.std.specs.Prelude.{ℕ, ◌≡◌, ◌<◌, List, [], ◌∷◌, Option, Some, None, length, pos, negsuc, ◌≤ℤ◌}
 use Rattle.ps_prim.specs.declared.prims.Primitive.{Primitive as Prim}
 use Rattle.ps_sum.specs.declared.sums.PathSum.{PathSum}
-use Rattle.ps_reach.specs.Replays.{Run}
 use Rattle.ps_steps.specs.declared.lines.Line.{Line}
 use Rattle.ps_steps.specs.Holding.{Entry, sided, closed, AllSided, Does}
 use Rattle.ps_replay.specs.declared.replayed.Why.{Why}

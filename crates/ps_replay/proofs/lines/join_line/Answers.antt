@@ -1,6 +1,5 @@
-use Rattle.std.proofs.Common.{◌≡◌, ◌<◌, ◌∙◌, ap, sym, subst, arith, Bool, true, false, List, [], ◌∷◌, ◌++◌, length, length-append}
-use Rattle.ps_steps.specs.Holding.{Entry, AllSided}
-use Rattle.ps_replay.specs.declared.held.Held.{Held}
+use Rattle.std.proofs.Common.{◌≡◌, ◌∙◌, ap, sym, subst, arith, Bool, true, false}
+use Rattle.ps_steps.specs.Holding.{AllSided}
 use Rattle.ps_replay.specs.Places.{stack, entry_of}
 use Rattle.ps_replay.specs.Stacks.{SidedAbove}
 use Rattle.ps_replay.proofs.Stacking.{popped_two, stack_push, few_after, above_under, join_none, join_closed, join_apart, join_does, join_over, onto_passes, together_pair, pair_qubits, pair_scaled}

@@ -1,7 +1,6 @@
-use Rattle.std.proofs.Common.{◌≡◌, ◌≢◌, ◌∙◌, ap, sym, refl, subst, arith, Bool, true, false, nat_eq, List, [], ◌∷◌, length}
-use Rattle.ps_steps.specs.Holding.{Entry, closed}
+use Rattle.std.proofs.Common.{◌≡◌, ◌∙◌, ap, arith, Bool, true, false, nat_eq, ◌∷◌, length}
+use Rattle.ps_steps.specs.Holding.{closed}
 use Rattle.ps_steps.proofs.Following.{empty, not_empty}
-use Rattle.ps_replay.specs.declared.held.Held.{Held}
 use Rattle.ps_replay.specs.Places.{stack, entry_of}
 use Rattle.ps_replay.proofs.Stacking.{popped_two, stack_push, stack_none, few_after, under_none, not_two, overlap_count, overlap_first, overlap_second, overlap_does, overlap_over, overlap_passes_at, wholes_pair, pair_qubits, pair_overlap_scaled}
 use Rattle.ps_replay.proofs.lines.overlap_line.Goals as goal

@@ -1,4 +1,4 @@
-use Rattle.std.proofs.Common.{◌≡◌, ◌<◌, refl, arith, length}
+use Rattle.std.proofs.Common.{◌<◌, refl, arith, length}
 use Rattle.ps_steps.proofs.Following.{empty, not_empty}
 use Rattle.ps_replay.proofs.Stacking.{all_sided_is, none_sided}
 use Rattle.ps_replay.proofs.placing.all_sided.Goals as goal

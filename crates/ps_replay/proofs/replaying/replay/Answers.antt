@@ -1,7 +1,7 @@
-use Rattle.std.proofs.Common.{◌≡◌, ap, sym, subst, ◌<◌, Err, length, List}
+use Rattle.std.proofs.Common.{sym, subst, ◌<◌, Err, length, List}
 use Rattle.std.proofs.lemmas.Result.{IfOk-weaker}
 use Rattle.ps_steps.specs.declared.lines.Line.{Line}
-use Rattle.ps_steps.specs.Texts.{IsReading, Known, lines_of}
+use Rattle.ps_steps.specs.Texts.{IsReading, Known}
 use Rattle.ps_replay.specs.declared.replayed.Why.TheVariants.{Form, Cut}
 use Rattle.ps_replay.specs.declared.replayed.Replayed.TheVariants.{Rejected}
 use Rattle.ps_replay.specs.Replaying.{Ends, Replays, misformed, cut_off, read}

@@ -1,10 +1,10 @@
-use Rattle.std.proofs.Common.{◌≡◌, ◌+◌, refl, ap, subst, arith, Some, None, [], get_or}
+use Rattle.std.proofs.Common.{◌+◌, refl, ap, subst, [], get_or}
 use Rattle.ps_steps.specs.declared.lines.Line.TheVariants.{Head}
 use Rattle.ps_replay.specs.Places.{stack}
 use Rattle.ps_replay.specs.Stacks.{Takes}
 use Rattle.ps_replay.specs.Replaying.{holds}
 use Rattle.ps_replay.proofs.Leading.{leads_start, leads_more, leads_failed, leads_whole, leads_alone, leads_held, head_number, line_at}
-use Rattle.ps_replay.proofs.Sound.{Given, kept_start, kept_more, kept_orderly}
+use Rattle.ps_replay.proofs.Sound.{kept_start, kept_more, kept_orderly}
 use Rattle.ps_replay.proofs.replaying.replay_lines.Goals as goal
 
 pub lines-init : goal.lines-init

@@ -1,4 +1,4 @@
-use Rattle.std.proofs.Common.{◌≡◌, ◌≤◌, [], take, length}
+use Rattle.std.proofs.Common.{◌≡◌, [], take}
 use Rattle.ps_replay.specs.Places.{stack}
 use Rattle.ps_replay.proofs.Leading.{Leads}
 use Rattle.ps_replay.proofs.Sound.{Kept}
