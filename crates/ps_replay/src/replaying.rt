@@ -63,7 +63,7 @@ fn replay_lines(
     ensures { IfOk result (λ r. Ends n first.now second.now lines.now r) }
 {
     let mut held = Vec::new(alloc);
-    let mut number = 0;
+    let mut number: u32 = 0;
     'lines: for line in lines {
         number += 1;
         match take_line(alloc, n, first, second, line, &mut held)? {
