@@ -1,0 +1,10 @@
+pub mod Tables
+pub mod Maps
+pub mod Checks
+pub mod Gates
+pub mod Library
+pub mod States
+pub mod Bodies
+pub mod Targets
+pub mod Statements
+pub mod Circuits
