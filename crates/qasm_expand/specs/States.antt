@@ -1,7 +1,9 @@
 -- What holds of all that is known while the statements of a text are taken, and what a step makes of it.
 use Rattle.std.specs.Prelude.{ℕ, ◌≡◌, ◌≤◌, true, List, [], ◌∷◌, length, Result, Ok, Err}
 use Rattle.ps_prim.specs.declared.prims.Primitive.{Primitive as Prim}
+use Rattle.std.specs.Coded.{×_prop, Unit-prop}
 use Rattle.ps_prim.specs.Maps.{AllWithin}
+use Rattle.ps_prim.specs.Items.{AllWithin-prop}
 use Rattle.qasm_expand.specs.declared.defs.Def.{Def}
 use Rattle.qasm_expand.specs.declared.state.State.{State}
 use Rattle.qasm_expand.specs.declared.fault.FaultName.{FaultName}
@@ -26,3 +28,7 @@ abbrev pub Became : {A B : Type 0} → Result A ReadFault → B → (Result B Re
 Became (Ok u) new P = P (Ok new)
 Became (Err (Fault name at)) new P = P (Err (Fault name at))
 Became (Err Memory) new P = Unit {0}
+
+pub ItemsWithin-prop : (n : ℕ) (is : List (List Prim)) → IsProp (ItemsWithin n is)
+ItemsWithin-prop n [] = Unit-prop
+ItemsWithin-prop n (i ∷ is) = ×_prop (AllWithin-prop n i) (ItemsWithin-prop n is)

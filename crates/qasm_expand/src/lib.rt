@@ -3,15 +3,19 @@
 
 pub mod bounds;
 pub mod broken;
+pub mod circuits;
 pub mod defs;
 pub mod fault;
-pub mod items;
+pub mod item_list;
 pub mod registers;
 pub mod state;
+pub mod tables;
 pub mod target;
 
 pub use bounds::Bounds;
+pub use circuits::{circuit, items};
 pub use defs::{Body, Called, Def, Defs, Exprs, Inner, Places};
 pub use fault::{FaultName, ReadFault};
-pub use items::Items;
+pub use item_list::Items;
 pub use registers::{Extent, Registers};
+pub use tables::{Circuit, Table};

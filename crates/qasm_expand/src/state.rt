@@ -2,7 +2,7 @@
 
 use crate::bounds::Bounds;
 use crate::defs::Defs;
-use crate::items::Items;
+use crate::item_list::Items;
 use crate::registers::Registers;
 
 /// The library's gates, from the one number up to the other.
