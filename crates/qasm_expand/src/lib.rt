@@ -1,19 +1,25 @@
 //! Circuits of programs in the unitary part of OpenQASM 2.0: gates, the library, and applications to registers.
 #![tactic(auto)]
 
+pub mod applying;
 pub mod bounds;
 pub mod broken;
 pub mod circuits;
+pub mod declaring;
 pub mod defs;
+pub mod expanding;
 pub mod fault;
 pub mod item_list;
+pub mod library;
+pub mod places;
+pub mod programs;
 pub mod registers;
 pub mod state;
 pub mod tables;
 pub mod target;
 
 pub use bounds::Bounds;
-pub use circuits::{circuit, items};
+pub use circuits::circuit;
 pub use defs::{Body, Called, Def, Defs, Exprs, Inner, Places};
 pub use fault::{FaultName, ReadFault};
 pub use item_list::Items;
