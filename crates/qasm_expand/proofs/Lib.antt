@@ -1,6 +1,7 @@
 pub mod OneText
 pub mod Sounding
-pub mod Naming
+pub mod Libraries
+pub mod Lookups
 pub mod Once
 pub mod Registering
 pub mod Taking

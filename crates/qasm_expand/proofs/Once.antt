@@ -17,11 +17,12 @@ use Rattle.qasm_parse.proofs.Single.{Single}
 use Rattle.qasm_parse.proofs.Whole.{text_one, program_one}
 use Rattle.qasm_expand.specs.declared.broken.Broken.{Broken}
 use Rattle.qasm_expand.specs.declared.defs.Def.{Def}
+use Rattle.qasm_expand.specs.declared.state.Shelf.{Shelf}
 use Rattle.qasm_expand.specs.declared.state.State.{State}
 use Rattle.qasm_expand.specs.declared.target.Aimed.{Aimed}
 use Rattle.qasm_expand.specs.declared.fault.ReadFault.{ReadFault}
 use Rattle.qasm_expand.specs.Tables.{Register, Bound}
-use Rattle.qasm_expand.specs.Library.{library_text, parsed, TextIs, bad_tokens, by_grammar, BlockIs, bad_block_tokens, by_block_grammar, included_by, Includes}
+use Rattle.qasm_expand.specs.Library.{library_text, parsed, TextIs, bad_tokens, by_grammar, BlockIs, bad_block_tokens, by_block_grammar, library_read, Includes, first, again}
 use Rattle.qasm_expand.specs.Bodies.{Job, Comes}
 use Rattle.qasm_expand.specs.Targets.{aimed, items_or_fault, Applies, missed, applies}
 use Rattle.qasm_expand.specs.Statements.{behind, Takes, include, quantum, classical, gate, apply, barrier, Expands, ended, taken, faulty}
@@ -63,8 +64,16 @@ one_block_is bytes a b (by_block_grammar {tk = s} {r = x} h p) (by_block_grammar
     let e : t ≡ s = same_tokens s t (one_reading bytes 0 (Ok s) (Ok t) h k) in
     ap parsed (one_block_grammar bytes s x y p (subst (λ z. OfBlock bytes z y) e q))
 
+not_both : (l : Option Shelf) (s : Shelf) → l ≡ None → l ≡ Some s → ⊥
+not_both l s e d = absurd (none_some (sym e ∙ d)) where
+  none_some : ◌≡◌ {A = Option Shelf} None (Some s) → ⊥
+  none_some e = cc
+
 one_include : (st : State) (a b : Result State ReadFault) → Includes st a → Includes st b → a ≡ b
-one_include st a b i k = i.after ∙ ap (included_by st.library st) (one_text_is library_text i.library k.library i.library_is k.library_is) ∙ sym k.after
+one_include st a b (first {r = r} e h) (first {r = s} d k) = ap (library_read st) (one_text_is library_text r s h k)
+one_include st a b (first e h) (again {s = s} d) = absurd (not_both st.library s e d)
+one_include st a b (again {s = s} d) (first e h) = absurd (not_both st.library s e d)
+one_include st a b (again e) (again d) = refl
 
 same_aimed : (x y : Aimed) → ◌≡◌ {A = Result Aimed ReadFault} (Ok x) (Ok y) → x ≡ y
 same_aimed x y e = cc

@@ -3,6 +3,7 @@ pub mod Maps
 pub mod Checks
 pub mod Gates
 pub mod Library
+pub mod Names
 pub mod States
 pub mod Bodies
 pub mod Targets

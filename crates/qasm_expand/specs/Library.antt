@@ -127,15 +127,10 @@ with_library st g = record { registers = st.registers; defs = g.defs; bound = wi
 abbrev pub library_read : State → Result (List Statement) ReadFault → Result State ReadFault
 library_read st r = and_then r (λ ss. and_then (all_defined library_text (record { defs = st.defs; bound = [] }) ss) (λ g. Ok (with_library st g)))
 
--- a later one changes nothing
-abbrev pub included_by : Option Shelf → State → Result (List Statement) ReadFault → Result State ReadFault
-included_by (Some s) st r = Ok st
-included_by None st r = library_read st r
-
-pub record Includes (st : State) (r : Result State ReadFault) : Type 0 where
-  pub library : Result (List Statement) ReadFault
-  pub library_is : TextIs library_text library
-  pub after : r ≡ included_by st.library st library
+-- what including the library makes of what is known; a second time it changes nothing
+pub data Includes (st : State) : Result State ReadFault → Type 0 where
+  first : {r : Result (List Statement) ReadFault} → st.library ≡ None → TextIs library_text r → Includes st (library_read st r)
+  again : {s : Shelf} → st.library ≡ Some s → Includes st (Ok st)
 
 -- a definition in the text
 abbrev pub with_gates : State → Gates → State

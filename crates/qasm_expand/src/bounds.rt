@@ -1,7 +1,8 @@
 //! Names of gates, and the gates that they mean.
 
-ghost use Rattle.std.specs.Prelude.{◌≡◌, [], OnOk, OnErr};
-ghost use Rattle.qasm_expand.specs.Tables.{meaning, rebound};
+ghost use Rattle.std.specs.Prelude.{◌≡◌, ◌<◌, Some, length, slice_get, [], OnOk, OnErr};
+ghost use Rattle.qasm_expand.specs.Tables.{Bound, meaning, rebound};
+ghost use Rattle.qasm_expand.specs.Library.{kept_or, with_all};
 
 use indexmap::IndexMap;
 use std::alloc::{AllocError, Global};
@@ -50,6 +51,35 @@ impl Bounds {
         ensures bound { OnOk result (self.new ≡ rebound self.old name.now def) }
     {
         self.table.insert(name.to_vec(alloc)?, def)?;
+        Ok(())
+    }
+
+    // Binds the name at a place of another list, unless it is bound here.
+    fn keep_or_add_at(
+        &mut self,
+        alloc: Global,
+        other: &Bounds,
+        index: usize,
+    ) -> Result<(), AllocError>
+        requires { index < length other.now }
+        ensures { OnOk result ((b : Bound) × (slice_get other.now index ≡ Some b) × (self.new ≡ kept_or (meaning self.old b.name) self.old b)) }
+    {
+        let Some((name, def)) = other.table.get_index(index) else {
+            unreachable!()
+        };
+        if self.meaning(name).is_none() {
+            self.rebind(alloc, name, *def)?;
+        }
+        Ok(())
+    }
+
+    /// Binds all names of another list that are not bound here.
+    pub(crate) fn keep_or_add(&mut self, alloc: Global, other: &Bounds) -> Result<(), AllocError>
+        ensures { OnOk result (self.new ≡ with_all self.old other.now) }
+    {
+        for index in 0..other.table.len() {
+            self.keep_or_add_at(alloc, other, index)?;
+        }
         Ok(())
     }
 }

@@ -8,7 +8,7 @@ ghost use Rattle.qasm_expand.specs.Statements.{Takes, Expands};
 use crate::applying::{apply, barrier};
 use crate::declaring::declare;
 use crate::fault::ReadFault;
-use crate::library::{definition, include};
+use crate::including::{definition, include};
 use crate::state::State;
 use qasm_parse::Statement;
 use std::alloc::Global;
