@@ -6,5 +6,6 @@ pub mod Library
 pub mod States
 pub mod Bodies
 pub mod Targets
+pub mod Aims
 pub mod Statements
 pub mod Circuits

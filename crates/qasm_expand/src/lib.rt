@@ -1,14 +1,19 @@
 //! Circuits of programs in the unitary part of OpenQASM 2.0: gates, the library, and applications to registers.
 #![tactic(auto)]
 
+pub mod applying;
+pub mod bodies;
 pub mod bounds;
 pub mod broken;
+pub mod calls;
 pub mod defs;
 pub mod fault;
 pub mod items;
+pub mod places;
 pub mod registers;
 pub mod state;
 pub mod target;
+pub mod targets;
 
 pub use bounds::Bounds;
 pub use defs::{Body, Called, Def, Defs, Exprs, Inner, Places};
