@@ -1,1 +1,4 @@
 pub mod Registering
+pub mod Aiming
+pub mod Aimed
+pub mod Placing

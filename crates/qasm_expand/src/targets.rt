@@ -8,17 +8,38 @@ ghost use Rattle.qasm_expand.specs.Checks.{Known, unless};
 ghost use Rattle.qasm_expand.specs.Gates.{arg_names};
 ghost use Rattle.qasm_expand.specs.States.{IsSound};
 ghost use Rattle.qasm_expand.specs.Targets.{target_of, targets_of, first_uneven as uneven, index_count as indices, qubit_at, qubits_at, repeat_at, repeat_from, too_many as is_too_many, aimed};
-ghost use Rattle.qasm_expand.specs.Aims.{agrees as is_even, size_after, Fits, Within};
+ghost use Rattle.qasm_expand.specs.Aims.{agrees as is_even, size_after, of_extent, Fits, Within};
 
 use crate::calls::{called, shape_of, wrong_arity};
 use crate::defs::{Called, Defs};
 use crate::fault::{FaultName, ReadFault};
 use crate::places::{fault, number, spelled};
-use crate::registers::Registers;
+use crate::registers::{Extent, Registers};
 use crate::state::State;
 use crate::target::{Aimed, Target, Targets};
 use qasm_parse::{Arg, Call, Span};
 use std::alloc::Global;
+
+/// The qubit or the register that an argument of a register is.
+fn place(bytes: &[u8], register: Extent, arg: Arg) -> Result<Target, ReadFault>
+    requires inside { ArgIn bytes.now arg }
+    requires few { register.quantum ≡ true → register.first + register.size ≤ 64 }
+    ensures { result ≡ of_extent register bytes.now arg }
+{
+    if !register.quantum {
+        return Err(fault(FaultName::Unknown, arg.name));
+    }
+    match arg.index {
+        None => Ok(Target::Whole(register.first, register.size)),
+        Some(index) => {
+            let place = number(spelled(bytes, index));
+            if register.size as u64 <= place {
+                return Err(fault(FaultName::Range, arg.name));
+            }
+            Ok(Target::Single(register.first + place as u32))
+        }
+    }
+}
 
 /// The qubit or the register that an argument is.
 fn target(bytes: &[u8], registers: &Registers, arg: Arg) -> Result<Target, ReadFault>
@@ -26,20 +47,10 @@ fn target(bytes: &[u8], registers: &Registers, arg: Arg) -> Result<Target, ReadF
     requires inside { ArgIn bytes.now arg }
     ensures { result ≡ target_of bytes.now registers.now arg }
 {
-    let Some(register) = registers.get(spelled(bytes, arg.name)) else {
-        return Err(fault(FaultName::Unknown, arg.name));
-    };
-    if !register.quantum {
-        return Err(fault(FaultName::Unknown, arg.name));
+    match registers.get(spelled(bytes, arg.name)) {
+        Some(register) => place(bytes, register, arg),
+        None => Err(fault(FaultName::Unknown, arg.name)),
     }
-    let Some(index) = arg.index else {
-        return Ok(Target::Whole(register.first, register.size));
-    };
-    let place = number(spelled(bytes, index));
-    if register.size as u64 <= place {
-        return Err(fault(FaultName::Range, arg.name));
-    }
-    Ok(Target::Single(register.first + place as u32))
 }
 
 /// What arguments are, or the first fault.
