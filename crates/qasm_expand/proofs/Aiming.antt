@@ -28,7 +28,7 @@ pub both_right : (a b : Bool) → (a && b) ≡ true → b ≡ true
 both_right true b e = e
 both_right false b e = cc
 
-All-cons : {X : Type 0} (P : X → Type 0) (x : X) (xs : List X) → P x → All P xs → All P (x ∷ xs)
+pub All-cons : {X : Type 0} (P : X → Type 0) (x : X) (xs : List X) → P x → All P xs → All P (x ∷ xs)
 All-cons P x xs p ps zero d h = p
 All-cons P x xs p ps (suc k) d h = ps k d (omega arith)
 
@@ -110,28 +110,26 @@ ahead_one : {A E : Type 0} (xs : List A) (x : A) (r : Result (List A) E) → ahe
 ahead_one xs x (Ok ys) = ap (λ l. Ok l) (sym (append_assoc xs (x ∷ []) ys))
 ahead_one xs x (Err e) = refl
 
-next_target : (bytes : List ℕ) (rs : List Register) (args : List Arg) (i : ℕ) (a : Arg) → i < length args → get_or args i a ≡ a
-    → targets_of bytes rs (drop i args) ≡ and_then (target_of bytes rs a) (λ t. before t (targets_of bytes rs (drop (i + 1) args)))
+next_target : (bytes : List ℕ) (rs : List Register) (args : List Arg) (i : ℕ) (d : Arg) → i < length args
+    → targets_of bytes rs (drop i args) ≡ and_then (target_of bytes rs (get_or args i d)) (λ t. before t (targets_of bytes rs (drop (i + 1) args)))
 unfolding targets_of
-next_target bytes rs args i a h e =
+next_target bytes rs args i d h =
     let n : suc i ≡ i + 1 = omega arith in
-    ap (λ l. targets_of bytes rs l) (drop-cons args i a h) ∙ ap (λ (b : Arg). and_then (target_of bytes rs b) (λ t. before t (targets_of bytes rs (drop (suc i) args)))) e
-    ∙ ap (λ (n : ℕ). and_then (target_of bytes rs a) (λ t. before t (targets_of bytes rs (drop n args)))) n
+    ap (λ l. targets_of bytes rs l) (drop-cons args i d h)
+    ∙ ap (λ (n : ℕ). and_then (target_of bytes rs (get_or args i d)) (λ t. before t (targets_of bytes rs (drop n args)))) n
 
-pub one_target : (bytes : List ℕ) (rs : List Register) (args : List Arg) (i : ℕ) (a : Arg) (out : List Target) (t : Target) (r : Result Target ReadFault) → i < length args → get_or args i a ≡ a
-    → r ≡ target_of bytes rs a → r ≡ Ok t → targets_of bytes rs args ≡ ahead out (targets_of bytes rs (drop i args))
-    → targets_of bytes rs args ≡ ahead (out ++ t ∷ []) (targets_of bytes rs (drop (i + 1) args))
-one_target bytes rs args i a out t r h e is ok all =
-    all ∙ ap (λ r. ahead out r) (next_target bytes rs args i a h e)
-    ∙ ap (λ (r : Result Target ReadFault). ahead out (and_then r (λ t. before t (targets_of bytes rs (drop (i + 1) args))))) (sym is ∙ ok)
-    ∙ ahead_one out t (targets_of bytes rs (drop (i + 1) args))
+module _ (bytes : List ℕ) (rs : List Register) (args : List Arg) (i : ℕ) (d : Arg) (out : List Target) (r : Result Target ReadFault) (h : i < length args)
+    (is : r ≡ target_of bytes rs (get_or args i d)) (all : targets_of bytes rs args ≡ ahead out (targets_of bytes rs (drop i args))) where
+  pub one_target : (t : Target) → r ≡ Ok t → targets_of bytes rs args ≡ ahead (out ++ t ∷ []) (targets_of bytes rs (drop (i + 1) args))
+  one_target t ok =
+      all ∙ ap (λ r. ahead out r) (next_target bytes rs args i d h)
+      ∙ ap (λ (r : Result Target ReadFault). ahead out (and_then r (λ t. before t (targets_of bytes rs (drop (i + 1) args))))) (sym is ∙ ok)
+      ∙ ahead_one out t (targets_of bytes rs (drop (i + 1) args))
 
-pub missed_target : (bytes : List ℕ) (rs : List Register) (args : List Arg) (i : ℕ) (a : Arg) (out : List Target) (f : ReadFault) (r : Result Target ReadFault) → i < length args → get_or args i a ≡ a
-    → r ≡ target_of bytes rs a → r ≡ Err f → targets_of bytes rs args ≡ ahead out (targets_of bytes rs (drop i args))
-    → targets_of bytes rs args ≡ Err f
-missed_target bytes rs args i a out f r h e is err all =
-    all ∙ ap (λ r. ahead out r) (next_target bytes rs args i a h e)
-    ∙ ap (λ (r : Result Target ReadFault). ahead out (and_then r (λ t. before t (targets_of bytes rs (drop (i + 1) args))))) (sym is ∙ err)
+  pub missed_target : (f : ReadFault) → r ≡ Err f → Err f ≡ targets_of bytes rs args
+  missed_target f err =
+      sym (all ∙ ap (λ r. ahead out r) (next_target bytes rs args i d h)
+      ∙ ap (λ (r : Result Target ReadFault). ahead out (and_then r (λ t. before t (targets_of bytes rs (drop (i + 1) args))))) (sym is ∙ err))
 
 pub all_targets : (bytes : List ℕ) (rs : List Register) (args : List Arg) (i : ℕ) (out : List Target) → length args ≤ i
     → targets_of bytes rs args ≡ ahead out (targets_of bytes rs (drop i args)) → Ok out ≡ targets_of bytes rs args
