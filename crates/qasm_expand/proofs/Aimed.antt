@@ -284,3 +284,10 @@ ready bytes rs defs bound made c a s p =
       within = λ i h. even_within (qubit_count rs) a.targets (arg_names c.args) i same p.even f.fit h;
       different = λ i h. (apart [] (qubits_at a.targets i) (arg_names c.args) (length-map a.targets (qubit_at i) ∙ same) (repeat_none a.targets (arg_names c.args) (index_count a.targets) i p.once h)).different;
     }
+
+pub fits_more : (n m : ℕ) (ts : List Target) → n ≤ m → All (Fits n) ts → All (Fits m) ts
+fits_more n m ts h f k d l = one (get_or ts k d) (f k d l)
+  where
+    one : (t : Target) → Fits n t → Fits m t
+    one (Single q) f = omega arith
+    one (Whole q size) f = omega arith

@@ -1,5 +1,5 @@
 -- Prims on the qubits of targets, and items for each index.
-use Rattle.std.proofs.Common.{◌≡◌, ◌≢◌, ℕ, zero, suc, ◌+◌, ◌-◌, ◌<◌, ◌≤◌, Bool, true, false, not, cond, List, [], ◌∷◌, ◌++◌, Option, Some, None, Result, Ok, Err, refl, sym, ap, subst, ◌∙◌, ◌&&◌, nat_eq, if◌then◌else◌, length, get_or, take, drop, arith, true≢false}
+use Rattle.std.proofs.Common.{◌≡◌, ◌≢◌, ℕ, zero, suc, ◌+◌, ◌-◌, ◌<◌, ◌≤◌, Bool, true, false, not, cond, List, [], ◌∷◌, ◌++◌, Option, Some, None, Result, Ok, Err, refl, sym, ap, subst, ◌∙◌, ◌&&◌, nat_eq, if◌then◌else◌, length, get_or, take, drop, append_assoc, arith, true≢false}
 use Rattle.std.specs.Prelude.{map, All}
 use Rattle.std.proofs.lemmas.List.{length-map, length-append, get_or-map, append-nil}
 use Rattle.std.proofs.lemmas.Bool.{eqb-true}
@@ -7,12 +7,13 @@ use Rattle.std.proofs.lemmas.Bool.Decides.{nat_tests}
 use Rattle.ps_prim.specs.declared.prims.Primitive.{Primitive as Prim}
 use Rattle.ps_prim.specs.declared.prims.Primitive.TheVariants.{U, Cx}
 use Rattle.ps_prim.specs.Maps.{IsWithin, AllWithin}
+use Rattle.qasm_parse.specs.declared.program.Formula.{Formula}
 use Rattle.qasm_expand.specs.declared.target.Target.{Target}
 use Rattle.qasm_expand.specs.declared.target.Target.TheVariants.{Single, Whole}
 use Rattle.qasm_expand.specs.Tables.{is_among, all_different}
 use Rattle.qasm_expand.specs.Bodies.{on_qubits, all_on}
 use Rattle.qasm_expand.specs.States.{ItemsWithin}
-use Rattle.qasm_expand.specs.Targets.{qubit_at, qubits_at, items_from}
+use Rattle.qasm_expand.specs.Targets.{qubit_at, qubits_at, items_from, expression_at}
 use Rattle.qasm_expand.specs.Aims.{Within}
 use Rattle.qasm_expand.proofs.Aiming.{both_left, both_right}
 
@@ -113,3 +114,24 @@ items_within n gs ts i (suc k) w e h =
 pub both_within : (n : ℕ) (xs ys : List (List Prim)) → ItemsWithin n xs → ItemsWithin n ys → ItemsWithin n (xs ++ ys)
 both_within n [] ys h k = k
 both_within n (x ∷ xs) ys h k = (h.0, both_within n xs ys h.1 k)
+
+pub items_none : (xs : List (List Prim)) (gs : List Prim) (ts : List Target) → xs ≡ xs ++ items_from gs ts 0 0
+unfolding items_from
+items_none xs gs ts = sym (append-nil xs)
+
+pub items_next : (xs now next : List (List Prim)) (gs item : List Prim) (ts : List Target) (i : ℕ) → now ≡ xs ++ items_from gs ts 0 i → next ≡ now ++ item ∷ [] → item ≡ all_on (qubits_at ts i) gs → next ≡ xs ++ items_from gs ts 0 (i + 1)
+items_next xs now next gs item ts i e f g =
+    f ∙ ap (λ l. l ++ item ∷ []) e ∙ append_assoc xs (items_from gs ts 0 i) (item ∷ []) ∙ ap (λ x. xs ++ (items_from gs ts 0 i ++ x ∷ [])) g ∙ ap (λ l. xs ++ l) (sym (items_more gs ts i))
+
+-- ---- the first byte of an expression
+pub expression_read : (fs : List Formula) (k : ℕ) (d : Formula) → k < length fs → (get_or fs k d).from ≡ expression_at fs k
+unfolding expression_at
+expression_read [] k d h = absurd (omega arith)
+expression_read (f ∷ fs) zero d h = refl
+expression_read (f ∷ fs) (suc k) d h = expression_read fs k d (omega arith)
+
+pub expression_past : (fs : List Formula) (k : ℕ) → length fs ≤ k → 0 ≡ expression_at fs k
+unfolding expression_at
+expression_past [] k h = refl
+expression_past (f ∷ fs) zero h = absurd (omega arith)
+expression_past (f ∷ fs) (suc k) h = expression_past fs k (omega arith)
