@@ -2,3 +2,4 @@ pub mod Registering
 pub mod Aiming
 pub mod Aimed
 pub mod Placing
+pub mod Applied
