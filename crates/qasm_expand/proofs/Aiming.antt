@@ -263,8 +263,8 @@ module _ (marks : List Bool) (ts : List Target) (args : List Arg) (i k : ℕ) (t
     seen = q ∷ p.seen;
     marked = marks_more marks q p.seen p.sized p.marked;
     left = p.left ∙ repeat_head p.seen ts args i k t a h same
-      ∙ ap (λ (b : Bool). if b then Some (get_or args k a).name else repeat_at (qubit_at i (get_or ts k t) ∷ p.seen) (qubits_at (drop (k + 1) ts) i) (arg_names (drop (k + 1) args))) (sym among ∙ e)
-      ∙ ap (λ (q : ℕ). repeat_at (q ∷ p.seen) (qubits_at (drop (k + 1) ts) i) (arg_names (drop (k + 1) args))) (sym is);
+        ∙ ap (λ (b : Bool). if b then Some (get_or args k a).name else repeat_at (qubit_at i (get_or ts k t) ∷ p.seen) (qubits_at (drop (k + 1) ts) i) (arg_names (drop (k + 1) args))) (sym among ∙ e)
+        ∙ ap (λ (q : ℕ). repeat_at (q ∷ p.seen) (qubits_at (drop (k + 1) ts) i) (arg_names (drop (k + 1) args))) (sym is);
   }
 
 pub passed_all : (marks : List Bool) (ts : List Target) (args : List Arg) (i k : ℕ) → length ts ≤ k → Passed marks ts args i k → None ≡ repeat_at [] (qubits_at ts i) (arg_names args)

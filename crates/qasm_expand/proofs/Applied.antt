@@ -98,10 +98,11 @@ module _ (bytes : List ℕ) (st : State) (c : Call) (a : Aimed) (e : aim_of byte
 
         pub became_applied : (fs : List Formula) → fs ≡ c.params → Comes st.defs [] (call a.gate (exprs_of fs)) (Ok gs)
             → Outcome bytes st c (Ok (record { registers = st.registers; defs = st.defs; bound = st.bound; library = st.library; items = new }))
-        became_applied fs p comes =
-            (Ok (items_from gs a.targets 0 (index_count a.targets)),
-             applies e (subst (λ fs. Comes st.defs [] (call a.gate (exprs_of fs)) (Ok gs)) p comes),
-             ap (λ is. Ok (record { registers = st.registers; defs = st.defs; bound = st.bound; library = st.library; items = is })) all_added)
+        became_applied fs p comes = (
+          Ok (items_from gs a.targets 0 (index_count a.targets)),
+          applies e (subst (λ fs. Comes st.defs [] (call a.gate (exprs_of fs)) (Ok gs)) p comes),
+          ap (λ is. Ok (record { registers = st.registers; defs = st.defs; bound = st.bound; library = st.library; items = is })) all_added,
+        )
 
         pub still_sound : IsSound (record { registers = st.registers; defs = st.defs; bound = st.bound; library = st.library; items = new })
         still_sound = record {
@@ -109,12 +110,12 @@ module _ (bytes : List ℕ) (st : State) (c : Call) (a : Aimed) (e : aim_of byte
           names = s.names;
           qubits = s.qubits;
           within = subst (ItemsWithin (qubit_count st.registers)) (sym all_added)
-            (both_within (qubit_count st.registers) st.items (items_from gs a.targets 0 (index_count a.targets)) s.within
-            (items_within (qubit_count st.registers) gs a.targets 0 (index_count a.targets) (λ j l. all_ready.within j (omega arith)) (λ j l. all_ready.different j (omega arith))
-            (subst (λ k. AllWithin k gs) target_count w)));
+              (both_within (qubit_count st.registers) st.items (items_from gs a.targets 0 (index_count a.targets)) s.within
+              (items_within (qubit_count st.registers) gs a.targets 0 (index_count a.targets) (λ j l. all_ready.within j (omega arith)) (λ j l. all_ready.different j (omega arith))
+              (subst (λ k. AllWithin k gs) target_count w)));
           few =
-            let few = (not_many st.defs a.gate (length st.items) (index_count a.targets) all_parts.few).1 in
-            let more = items_count gs a.targets 0 (index_count a.targets) in
-            let len = ap length all_added ∙ length-append st.items (items_from gs a.targets 0 (index_count a.targets)) in
-            omega arith;
+              let few = (not_many st.defs a.gate (length st.items) (index_count a.targets) all_parts.few).1 in
+              let more = items_count gs a.targets 0 (index_count a.targets) in
+              let len = ap length all_added ∙ length-append st.items (items_from gs a.targets 0 (index_count a.targets)) in
+              omega arith;
         }

@@ -1,5 +1,6 @@
-pub mod Registering
-pub mod Aiming
-pub mod Aimed
-pub mod Placing
-pub mod Applied
+mod Lookups
+mod Registering
+mod Aiming
+mod Aimed
+mod Placing
+mod Applied

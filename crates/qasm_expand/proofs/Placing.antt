@@ -107,9 +107,10 @@ items_count gs ts i (suc n) = ap suc (items_count gs ts (i + 1) n)
 pub items_within : (n : ℕ) (gs : List Prim) (ts : List Target) (i k : ℕ) → ((j : ℕ) → j < i + k → All (Within n j) ts) → ((j : ℕ) → j < i + k → all_different (qubits_at ts j) ≡ true) → AllWithin (length ts) gs → ItemsWithin n (items_from gs ts i k)
 unfolding items_from
 items_within n gs ts i zero w e h = tt
-items_within n gs ts i (suc k) w e h =
-    (placed_all n i ts gs (w i (omega arith)) (e i (omega arith)) h,
-     items_within n gs ts (i + 1) k (λ j l. w j (omega arith)) (λ j l. e j (omega arith)) h)
+items_within n gs ts i (suc k) w e h = (
+  placed_all n i ts gs (w i (omega arith)) (e i (omega arith)) h,
+  items_within n gs ts (i + 1) k (λ j l. w j (omega arith)) (λ j l. e j (omega arith)) h,
+)
 
 pub both_within : (n : ℕ) (xs ys : List (List Prim)) → ItemsWithin n xs → ItemsWithin n ys → ItemsWithin n (xs ++ ys)
 both_within n [] ys h k = k

@@ -5,8 +5,9 @@ ghost use Rattle.ps_prim.specs.declared.prims.Primitive.{Primitive as Prim};
 ghost use Rattle.ps_prim.specs.Maps.{AllWithin, IsWithin};
 ghost use Rattle.qasm_parse.specs.Places.{ArgIn, CallIn};
 ghost use Rattle.qasm_expand.specs.declared.fault.ReadFault.{ReadFault};
-ghost use Rattle.qasm_expand.specs.Tables.{all_different, all_below};
+ghost use Rattle.qasm_expand.specs.Tables.{all_different};
 ghost use Rattle.qasm_expand.specs.Bodies.{on_qubits, all_on};
+ghost use Rattle.qasm_expand.specs.Checks.{of_angle as angle_fault};
 ghost use Rattle.qasm_expand.specs.States.{IsSound, Became};
 ghost use Rattle.qasm_expand.specs.Targets.{targets_of, index_count as indices, qubits_at, items_from, expression_at as offset_of, broken_at as fault_of_broken, Applies};
 ghost use Rattle.qasm_expand.specs.Statements.{behind, past};
@@ -14,13 +15,13 @@ ghost use Rattle.qasm_expand.specs.Aims.{Within};
 
 use crate::bodies::comes;
 use crate::broken::Broken;
-use crate::fault::ReadFault;
+use crate::fault::{FaultName, ReadFault};
 use crate::items::Items;
-use crate::places::of_angle;
 use crate::state::State;
 use crate::target::Target;
 use crate::targets::{aim, index_count, qubit, targets};
 use ps_prim::{Item, Prim};
+use qasm_angle::AngleFault;
 use qasm_parse::{Arg, Call, Formula};
 use std::alloc::{AllocError, Global};
 
@@ -95,6 +96,21 @@ fn expression_at(formulas: &[Formula], at: usize) -> u32
         Some(formula) => formula.from,
         None => 0,
     }
+}
+
+/// The fault of an expression, at a byte.
+pub fn of_angle(fault: AngleFault, offset: u32) -> ReadFault
+    ensures { result ≡ angle_fault fault offset }
+{
+    let name = match fault {
+        AngleFault::NotDyadic => FaultName::NotDyadic,
+        AngleFault::AngleRange => FaultName::AngleRange,
+        AngleFault::NoParameter => FaultName::NoParameter,
+        AngleFault::Function => FaultName::Function,
+        AngleFault::ByZero => FaultName::ByZero,
+        AngleFault::Memory => return ReadFault::Memory,
+    };
+    ReadFault::Fault { name, offset }
 }
 
 /// The fault of an application: of an own expression at its first byte, of one in a body at the gate.

@@ -1,6 +1,6 @@
 //! What applications come to.
 
-ghost use Rattle.std.specs.Prelude.{◌≡◌, ◌≤◌, [], true, length, OnOk, IfOk, vec_len};
+ghost use Rattle.std.specs.Prelude.{◌≡◌, ◌≤◌, [], true, length, IfOk};
 ghost use Rattle.ps_prim.specs.Maps.{AllWithin};
 ghost use Rattle.qasm_expand.specs.Tables.{params_of, args_of, size_of, is_earlier, defs_sound};
 ghost use Rattle.qasm_expand.specs.Bodies.{Comes, Tells, call};
@@ -21,11 +21,11 @@ pub fn comes(
     formulas: &[Formula],
 ) -> Result<Vec<Prim>, Broken>
     requires sound { defs_sound defs.now ≡ true }
-    requires known { is_earlier (length defs.now) gate ≡ true }
+    requires there { is_earlier (length defs.now) gate ≡ true }
     requires arity { length formulas.now ≡ params_of defs.now gate }
     requires few { size_of defs.now gate ≤ 4096 }
-    ensures comes { Tells result (Comes defs.now [] (call gate (exprs_of formulas.now))) }
-    ensures few { IfOk result (λ v. vec_len v ≤ size_of defs.now gate) }
+    ensures told { Tells result (Comes defs.now [] (call gate (exprs_of formulas.now))) }
+    ensures count { IfOk result (λ v. length v.items ≤ size_of defs.now gate) }
     ensures within { IfOk result (λ v. AllWithin (args_of defs.now gate) v.items) }
 {
     Err(Broken::Inside(AngleFault::Memory))

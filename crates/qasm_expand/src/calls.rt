@@ -8,7 +8,7 @@ ghost use Rattle.qasm_expand.specs.Gates.{called as gate_called, wrong_arity as 
 use crate::bounds::Bounds;
 use crate::defs::{Called, Defs};
 use crate::fault::{FaultName, ReadFault};
-use crate::places::{fault, spelled};
+use crate::spelling::{fault, spelled};
 use qasm_parse::{Called as Word, Span};
 
 /// How many parameters and arguments a gate takes, and how many primitive gates it comes to, told as

@@ -13,8 +13,9 @@ ghost use Rattle.qasm_expand.specs.Aims.{agrees as is_even, size_after, of_exten
 use crate::calls::{called, shape_of, wrong_arity};
 use crate::defs::{Called, Defs};
 use crate::fault::{FaultName, ReadFault};
-use crate::places::{fault, number, spelled};
+use crate::numbers::number;
 use crate::registers::{Extent, Registers};
+use crate::spelling::{fault, spelled};
 use crate::state::State;
 use crate::target::{Aimed, Target, Targets};
 use qasm_parse::{Arg, Call, Span};

@@ -7,8 +7,8 @@ pub returns-in_err-aimed-clause-applies : goal.returns-in_err-aimed-clause-appli
 returns-in_err-aimed-clause-applies c =
     became_missed c.args.bytes.now c.args.state.now c.args.call.now c.in_err-aimed.field-0.0 c.from_residual.result (err_from_is_err_and c.from_residual.result c.from_residual.ensures.1) c.in_err-aimed.ensures
 
-pub comes-requires-clause-known : goal.comes-requires-clause-known
-comes-requires-clause-known c = known_gate c.args.bytes.now c.args.state.now c.args.call.now c.in_ok-aimed.aimed (sym c.in_ok-aimed.ensures) c.requires.sound
+pub comes-requires-clause-there : goal.comes-requires-clause-there
+comes-requires-clause-there c = known_gate c.args.bytes.now c.args.state.now c.args.call.now c.in_ok-aimed.aimed (sym c.in_ok-aimed.ensures) c.requires.sound
 
 pub comes-requires-clause-arity : goal.comes-requires-clause-arity
 comes-requires-clause-arity c = known_arity c.args.bytes.now c.args.state.now c.args.call.now c.in_ok-aimed.aimed (sym c.in_ok-aimed.ensures) c.requires.sound c.items.result.now c.items.ensures
@@ -18,7 +18,7 @@ comes-requires-clause-few c = known_size c.args.bytes.now c.args.state.now c.arg
 
 pub returns-in-Err-clause-applies : goal.returns-in-Err-clause-applies
 returns-in-Err-clause-applies c =
-    became_broken c.args.bytes.now c.args.state.now c.args.call.now c.in_ok-aimed.aimed (sym c.in_ok-aimed.ensures) c.in-Err.broken c.broken_at.result c.items.result.now c.broken_at.ensures c.items.ensures c.in-Err.ensures.comes
+    became_broken c.args.bytes.now c.args.state.now c.args.call.now c.in_ok-aimed.aimed (sym c.in_ok-aimed.ensures) c.in-Err.broken c.broken_at.result c.items.result.now c.broken_at.ensures c.items.ensures c.in-Err.ensures.told
 
 pub add-requires-clause-prims : goal.add-requires-clause-prims
 add-requires-clause-prims c =
@@ -36,7 +36,7 @@ add-requires-clause-different c =
 pub returns : goal.returns
 returns c = record {
   applies = became_applied c.args.bytes.now c.args.state.now c.args.call.now c.in_ok-aimed.aimed (sym c.in_ok-aimed.ensures) c.requires.sound c.as_slice-targets.result.now c.as_slice-targets.ensures c.index_count.result c.index_count.ensures
-    c.in-Ok.prims.items c.deref.result.now c.deref.ensures.value c.in-Ok.ensures.within c.add.new.items c.in_ok-add.ensures c.items.result.now c.items.ensures c.in-Ok.ensures.comes;
+      c.in-Ok.prims.items c.deref.result.now c.deref.ensures.value c.in-Ok.ensures.within c.add.new.items c.in_ok-add.ensures c.items.result.now c.items.ensures c.in-Ok.ensures.told;
   sound = still_sound c.args.bytes.now c.args.state.now c.args.call.now c.in_ok-aimed.aimed (sym c.in_ok-aimed.ensures) c.requires.sound c.as_slice-targets.result.now c.as_slice-targets.ensures c.index_count.result c.index_count.ensures
-    c.in-Ok.prims.items c.deref.result.now c.deref.ensures.value c.in-Ok.ensures.within c.add.new.items c.in_ok-add.ensures;
+      c.in-Ok.prims.items c.deref.result.now c.deref.ensures.value c.in-Ok.ensures.within c.add.new.items c.in_ok-add.ensures;
 }
