@@ -1,8 +1,12 @@
-pub mod OneText
-pub mod Sounding
+pub mod Aimed
+pub mod Aiming
+pub mod Applied
 pub mod Libraries
 pub mod Lookups
 pub mod Once
+pub mod OneText
+pub mod Placing
 pub mod Registering
+pub mod Sounding
 pub mod Taking
 pub mod Texts

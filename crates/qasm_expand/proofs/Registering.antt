@@ -30,13 +30,6 @@ found name (e ∷ es) =
     ∙ ap (λ r. cond (bytes_eq e.0.items name) (Some e.1) r) (found name es)
     ∙ sym (mapped_choice extent_of (bytes_eq e.0.items name) (register_with e) (register_of (map register_with es) name))
 
-pub found_meaning : (name : List ℕ) (es : List ((Vec ℕ Global) × ℕ)) → lookup (λ (k : Vec ℕ Global). bytes_eq name k.items) es ≡ meaning (map bound_of es) name
-unfolding meaning
-found_meaning name [] = refl
-found_meaning name (e ∷ es) =
-    ap (λ b. cond b (Some e.1) (lookup (λ (k : Vec ℕ Global). bytes_eq name k.items) es)) (same_either_way name e.0.items)
-    ∙ ap (λ r. cond (bytes_eq e.0.items name) (Some e.1) r) (found_meaning name es)
-
 -- an entry with a new key goes last
 abbrev same_keys : Vec ℕ Global → Vec ℕ Global → Bool
 same_keys x y = bytes_eq x.items y.items

@@ -7,6 +7,8 @@ pub mod Names
 pub mod States
 pub mod Bodies
 pub mod Targets
+pub mod Aims
+pub mod Aims
 pub mod Statements
 pub mod Circuits
 pub mod Reading

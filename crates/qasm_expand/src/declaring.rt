@@ -6,7 +6,8 @@ ghost use Rattle.qasm_expand.specs.States.{IsSound, Became};
 ghost use Rattle.qasm_expand.specs.Statements.{declared_as};
 
 use crate::fault::{FaultName, ReadFault};
-use crate::places::{fault, number, spelled};
+use crate::numbers::number;
+use crate::spelling::{fault, spelled};
 use crate::registers::Extent;
 use crate::state::State;
 use qasm_parse::Span;

@@ -2,8 +2,10 @@
 #![tactic(auto)]
 
 pub mod applying;
+pub mod bodies;
 pub mod bounds;
 pub mod broken;
+pub mod calls;
 pub mod circuits;
 pub mod declaring;
 pub mod defs;
@@ -13,13 +15,14 @@ pub mod gates;
 pub mod including;
 pub mod item_list;
 pub mod library;
-pub mod places;
+pub mod numbers;
 pub mod programs;
 pub mod registers;
 pub mod spelling;
 pub mod state;
 pub mod tables;
 pub mod target;
+pub mod targets;
 
 pub use bounds::Bounds;
 pub use circuits::circuit;
