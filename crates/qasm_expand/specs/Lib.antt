@@ -8,3 +8,4 @@ pub mod Bodies
 pub mod Targets
 pub mod Statements
 pub mod Circuits
+pub mod Frames

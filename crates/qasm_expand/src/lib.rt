@@ -1,10 +1,12 @@
 //! Circuits of programs in the unitary part of OpenQASM 2.0: gates, the library, and applications to registers.
 #![tactic(auto)]
 
+mod bodies;
 pub mod bounds;
 pub mod broken;
 pub mod defs;
 pub mod fault;
+mod frame;
 pub mod items;
 pub mod registers;
 pub mod state;

@@ -1,0 +1,5 @@
+pub mod Expressions
+pub mod Fitting
+pub mod Prims
+pub mod Machine
+pub mod Outcomes
