@@ -205,7 +205,7 @@ pub own_at : (fs : List Formula) (i : ℕ) (f : Formula) → i < length fs → f
 own_at fs i f lt h = ap (λ g. g.expr) h ∙ sym (get_or-map (λ g. g.expr) fs i f [] lt)
 
 pub exprs_length : (fs : List Formula) → length (exprs_of fs) ≡ length fs
-exprs_length fs = length-map fs
+exprs_length fs = length-map fs (λ f. f.expr)
 
 -- ---- three turns
 module _ {X : Type 0} (Is : List Op → Result X AngleFault → Type 0) (a b c : List Op) where

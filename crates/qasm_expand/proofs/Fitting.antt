@@ -71,7 +71,7 @@ module _ (before more : List Def) (params args : ℕ) where
   body_fits (i ∷ is) s = let h = both_true (inner_sound before params args i) (body_sound before params args is) s in (inner_fits i h.0, body_fits is h.1)
 
   count_before : (is : List Inner) → body_sound before params args is ≡ true → prim_count before is ≡ prim_count (before ++ more) is
-  unfolding body_sound, prim_count
+  unfolding body_sound prim_count
   count_before [] s = refl
   count_before (i ∷ is) s =
       let h = both_true (inner_sound before params args i) (body_sound before params args is) s in

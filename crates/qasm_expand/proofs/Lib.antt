@@ -2,4 +2,3 @@ pub mod Expressions
 pub mod Fitting
 pub mod Prims
 pub mod Machine
-pub mod Outcomes

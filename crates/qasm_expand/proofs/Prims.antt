@@ -118,7 +118,7 @@ joined_count : (m n : ℕ) (ps : List ℕ) (gs : List Prim) (r : Result (List Pr
 joined_count m n ps gs (Ok hs) h k = λ le.
     let a : length gs ≡ m = h (omega arith) in
     let b : length hs ≡ n = k (omega arith) in
-    length-append (all_on ps gs) hs ∙ ap (λ x. x + length hs) (length-map gs ∙ a) ∙ ap (λ x. m + x) b
+    length-append (all_on ps gs) hs ∙ ap (λ x. x + length hs) (length-map gs (on_qubits ps) ∙ a) ∙ ap (λ x. m + x) b
 joined_count m n ps gs (Err b) h k = tt
 
 told_count : (m n : ℕ) (r : Result (List Prim) Broken) → n ≡ min m 4097 → CountIf m r → CountIf n r

@@ -89,6 +89,11 @@ Does defs f i (Ok (APrim g)) = (h : Prim) × (g ≡ on_qubits f.places.items (on
 Does defs f i (Ok (ABody b)) = Opens defs f i b
 Does defs f i (Err x) = unless_memory x ((b : Broken) × (fault_of b ≡ x) × Comes defs f.values.items (call i.gate i.params) (Err b))
 
+-- the frame of an application's body
+abbrev pub OpensTo : List Def → Frame → Inner → Result Frame AngleFault → Type 0
+OpensTo defs f i (Ok b) = Opens defs f i b
+OpensTo defs f i (Err x) = unless_memory x ((b : Broken) × (fault_of b ≡ x) × Comes defs f.values.items (call i.gate i.params) (Err b))
+
 -- frames, the innermost last, become others, and prims are made
 abbrev pub Steps : List Def → List Frame → List Frame → List Prim → List Prim → Result (Unit {0}) AngleFault → Type 0
 Steps defs old new out made (Ok _) = (more : List Prim) × (made ≡ out ++ more) × ((r : Result (List Prim) Broken) → Left defs (reverse new) r → Left defs (reverse old) (joined more r))

@@ -1,6 +1,6 @@
 //! What applications come to.
 
-ghost use Rattle.std.specs.Prelude.{MatchResult, ◌≡◌, ◌≤◌, ◌<◌, ◌++◌, ◌∷◌, [], ℕ, true, length, map, get_or, slice_get, Some, All, OnOk, OnErr, IfOk};
+ghost use Rattle.std.specs.Prelude.{MatchResult, ◌≢◌, ◌≡◌, ◌≤◌, ◌<◌, ◌++◌, ◌∷◌, [], ℕ, true, length, map, get_or, slice_get, Some, All, OnOk, OnErr, IfOk};
 ghost use Rattle.std.specs.List.{range_with_len};
 ghost use Rattle.qasm_angle.specs.declared.types.Pair.{Pair};
 ghost use Rattle.qasm_angle.specs.Values.{Told};
@@ -10,7 +10,7 @@ ghost use Rattle.qasm_expand.specs.declared.defs.Called.TheVariants.{Def as ADef
 ghost use Rattle.qasm_expand.specs.Tables.{defs_sound, is_earlier, params_of, args_of, size_of, all_below};
 ghost use Rattle.qasm_expand.specs.Bodies.{IsValue, IsTurn, Each, call, Comes, Answers, Tells};
 ghost use Rattle.qasm_expand.specs.Targets.{exprs_of};
-ghost use Rattle.qasm_expand.specs.Frames.{InnerFits, FrameFits, stack_work, Does, Steps, Does_all, Turned};
+ghost use Rattle.qasm_expand.specs.Frames.{InnerFits, FrameFits, stack_work, OpensTo, Does, Steps, Does_all, Turned};
 
 use crate::broken::{Broken, Stop};
 use crate::defs::{Called, Def, Defs, Inner};
@@ -123,4 +123,56 @@ fn own_values(alloc: Global, formulas: &[Formula]) -> Result<Vec<Pair>, Stop>
         }
     }
     Ok(done)
+}
+
+/// The places that stand for a gate's arguments.
+fn places_of(alloc: Global, args: &[u32], outer: &[u32]) -> Result<Vec<u32>, AllocError>
+    requires { all_below (length outer.now) args.now ≡ true }
+    ensures { IfOk result (λ v. v.items ≡ map (λ q. get_or outer.now q 0) args.now) }
+{
+    let mut places = Vec::new(alloc);
+    for arg in args {
+        places.push(outer[*arg as usize])?;
+    }
+    Ok(places)
+}
+
+/// The first places.
+fn first_places(alloc: Global, count: u32) -> Result<Vec<u32>, AllocError>
+    ensures { IfOk result (λ v. v.items ≡ range_with_len 0 count) }
+{
+    let mut places = Vec::new(alloc);
+    for place in 0..count {
+        places.push(place)?;
+    }
+    Ok(places)
+}
+
+/// The frame of the body of an application in a frame.
+fn opened(
+    alloc: Global,
+    defs: &[Def],
+    frame: &Frame,
+    inner: &Inner,
+    def: u32,
+) -> Result<Frame, AngleFault>
+    requires gate { inner.now.gate ≡ ADef def }
+    requires there { def < length defs.now }
+    requires earlier { def < frame.now.def }
+    requires some { size_of defs.now (ADef def) ≢ 0 }
+    requires frame { FrameFits defs.now frame.now }
+    requires inner { InnerFits defs.now frame.now.def (args_of defs.now (ADef frame.now.def)) inner.now }
+    ensures { OpensTo defs.now frame.now inner.now result }
+{
+    let values = match values(alloc, inner.params.as_slice(), &frame.values) {
+        Ok(values) => values,
+        Err(stop) => return Err(stop.fault),
+    };
+    let places = places_of(alloc, inner.args.as_slice(), &frame.places)?;
+    Ok(Frame {
+        def,
+        next: 0,
+        values,
+        places,
+    })
 }
