@@ -2,7 +2,7 @@
 use Rattle.std.proofs.Common.{◌≡◌, ◌≢◌, ◌<◌, ◌≤◌, ℕ, zero, suc, ◌+◌, ◌-◌, length, length-append, get_or, drop, drop-cons, add-one, zero-add, arith, List, [], ◌∷◌, ◌++◌, map, reverse, refl, sym, ◌∙◌, ap, subst, append_assoc, append-nil, true, Some, None, Result, Ok, Err}
 use Rattle.std.specs.Prelude.{slice_get}
 use Rattle.std.specs.List.{range_with_len}
-use Rattle.std.proofs.lemmas.List.{reverse-append, map-append}
+use Rattle.std.proofs.lemmas.List.{reverse-append, map-append, length-map}
 use Rattle.std.proofs.lemmas.Option.{slice_get-get_or}
 use Rattle.ps_prim.specs.declared.prims.Primitive.{Primitive as Prim}
 use Rattle.ps_prim.specs.Maps.{AllWithin}
@@ -14,11 +14,13 @@ use Rattle.qasm_expand.specs.declared.defs.Called.TheVariants.{U, Cx, Def as ADe
 use Rattle.qasm_expand.specs.declared.defs.Inner.{Inner}
 use Rattle.qasm_expand.specs.declared.defs.Def.{Def}
 use Rattle.qasm_expand.specs.declared.broken.Broken.{Broken}
+use Rattle.qasm_expand.specs.declared.broken.Stop.{Stop}
 use Rattle.qasm_expand.specs.declared.broken.Broken.TheVariants.{Own, Inside}
 use Rattle.qasm_expand.specs.declared.frame.Frame.{Frame}
-use Rattle.qasm_expand.specs.Tables.{args_of, args_of_def, defs_sound}
-use Rattle.qasm_expand.specs.Bodies.{on_qubits, all_on, fault_of, joined, Job, call, rest, Comes, ended, applied, broken}
+use Rattle.qasm_expand.specs.Tables.{size_of, size_of_def, args_of, args_of_def, defs_sound}
+use Rattle.qasm_expand.specs.Bodies.{on_qubits, all_on, fault_of, joined, IsValue, IsTurn, Each, unless_memory, Answers, Job, call, rest, Comes, nothing, universal, no_angle, controlled, replaced, no_value, ended, applied, broken}
 use Rattle.qasm_expand.specs.Frames.{InnerFits, BodyFits, DefFits, body_of_def, left_of, FrameFits, Left, all_done, one_done, one_stops, works, work, frame_work, stack_work, Opens}
+use Rattle.qasm_expand.proofs.Expressions.{unless_map}
 use Rattle.qasm_expand.proofs.Fitting.{def_fits}
 use Rattle.qasm_expand.proofs.Prims.{all_both, all_on_range, WithinIf, comes_within}
 
@@ -166,3 +168,40 @@ module _ (defs : List Def) where
   pub stack_work_more : (fs : List Frame) (f : Frame) → stack_work defs (fs ++ (f ∷ [])) ≡ stack_work defs fs + frame_work defs f
   stack_work_more [] f = omega arith
   stack_work_more (g ∷ fs) f = let h = stack_work_more fs f in omega (arith, h)
+
+-- ---- opening a body
+open_values : (vs ws : List Pair) (es fs : List (List Op)) (s : Result (List Pair) Stop) → es ≡ fs → vs ≡ ws → Each (IsValue vs) es s → Each (IsValue ws) fs s
+open_values vs ws es fs s e d h = subst (λ xs. Each (IsValue xs) fs s) d (subst (λ xs. Each (IsValue vs) xs s) e h)
+
+some_gate : (defs : List Def) (e : ℕ) → e < length defs → (g : Def) × (slice_get defs e ≡ Some g)
+some_gate [] e lt = absurd (omega arith)
+some_gate (g ∷ defs) zero lt = (g, refl)
+some_gate (g ∷ defs) (suc e) lt = some_gate defs e (omega arith)
+
+module _ (defs : List Def) (f : Frame) (i : Inner) (e : ℕ) (gate : i.gate ≡ ADef e) (there : e < length defs) (some : size_of defs (ADef e) ≢ 0) where
+  some_size : (g : Def) → slice_get defs e ≡ Some g → g.size ≢ 0
+  some_size g h n = some (ap size_of_def h ∙ n)
+
+  called : (r : Result (List Prim) Broken) → Comes defs f.values.items (call (ADef e) i.params) r → Comes defs f.values.items (call i.gate i.params) r
+  called r h = subst (λ c. Comes defs f.values.items (call c i.params) r) (sym gate) h
+
+  no_values : (s : Stop) → Each (IsValue f.values.items) i.params (Err s) → (b : Broken) × (fault_of b ≡ s.fault) × Comes defs f.values.items (call i.gate i.params) (Err b)
+  no_values s h = let g = some_gate defs e there in (Own s, refl, called (Err (Own s)) (no_value (some_size g.0 g.1) g.1 h))
+
+  pub open_faulty : (s : Stop) (es : List (List Op)) (vs : List Pair) → es ≡ i.params → vs ≡ f.values.items → Answers (Err s) (Each (IsValue vs) es) → unless_memory s.fault ((b : Broken) × (fault_of b ≡ s.fault) × Comes defs f.values.items (call i.gate i.params) (Err b))
+  open_faulty s es vs p q h = unless_map _ _ s.fault (λ a. no_values s (open_values vs f.values.items es i.params (Err s) p q a)) h
+
+  pub open_frame : e < f.def → length i.args ≡ args_of defs i.gate → (b : Frame) → b.def ≡ e → b.next ≡ 0 → (es : List (List Op)) (vs : List Pair) → es ≡ i.params → vs ≡ f.values.items → Each (IsValue vs) es (Ok b.values.items) → b.places.items ≡ map (λ q. get_or f.places.items q 0) i.args → Opens defs f i b
+  open_frame lt takes b d n es vs p q h m =
+      let g = some_gate defs e there in
+      let t : slice_get defs b.def ≡ Some g.0 = ap (slice_get defs) d ∙ g.1 in
+      let l : left_of defs b ≡ g.0.body = left_is defs b g.0 t ∙ ap (λ k. drop k g.0.body) n in
+      record {
+        fits = record {
+          there = subst (λ k. k < length defs) (sym d) there;
+          takes = ap length m ∙ length-map i.args (λ q. get_or f.places.items q 0) ∙ takes ∙ ap (args_of defs) gate ∙ ap (λ k. args_of defs (ADef k)) (sym d);
+        };
+        places = m;
+        comes = λ r c. called r (replaced (some_size g.0 g.1) g.1 (open_values vs f.values.items es i.params (Ok b.values.items) p q h) (subst (λ is. Comes defs b.values.items (rest is) r) l c));
+        smaller = subst (λ c. frame_work defs b < work defs f.def c) (sym gate) (opens_less defs f.def e b lt d n);
+      }

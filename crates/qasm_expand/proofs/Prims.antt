@@ -37,6 +37,10 @@ on_range : (n : ℕ) (g : Prim) → IsWithin n g → on_qubits (range_with_len 0
 on_range n (UPrim theta phi lambda q) h = ap (λ k. UPrim theta phi lambda k) (at_range n q h)
 on_range n (CxPrim c t) h = ap (λ k. CxPrim k (get_or (range_with_len 0 n) t 0)) (at_range n c h.0) ∙ ap (λ k. CxPrim c k) (at_range n t h.1)
 
+pub range_more : (a n : ℕ) → range_with_len a (n + 1) ≡ range_with_len a n ++ ((a + n) ∷ [])
+range_more a zero = ap (λ k. k ∷ []) (let e : a ≡ a + 0 = omega arith in e)
+range_more a (suc n) = rw add-one (ap (λ xs. a ∷ xs) (sym (ap (range_with_len (a + 1)) (add-one n)) ∙ range_more (a + 1) n ∙ ap (λ k. range_with_len (a + 1) n ++ (k ∷ [])) (let e : a + 1 + n ≡ a + suc n = omega arith in e)))
+
 -- each argument in its own place
 pub all_on_range : (n : ℕ) (gs : List Prim) → AllWithin n gs → all_on (range_with_len 0 n) gs ≡ gs
 all_on_range n [] h = refl

@@ -100,11 +100,15 @@ Steps defs old new out made (Ok _) = (more : List Prim) × (made ≡ out ++ more
 Steps defs old new out made (Err x) = unless_memory x (Left defs (reverse old) (Err (Inside x)))
 
 -- all that a frame comes to
-abbrev pub Does_all : List Def → Frame → Result (Vec Prim Global) AngleFault → Type 0
-Does_all defs f (Ok v) = Left defs (f ∷ []) (Ok v.items)
-Does_all defs f (Err x) = unless_memory x (Left defs (f ∷ []) (Err (Inside x)))
+abbrev pub DoesAll : List Def → Frame → Result (Vec Prim Global) AngleFault → Type 0
+DoesAll defs f (Ok v) = Left defs (f ∷ []) (Ok v.items)
+DoesAll defs f (Err x) = unless_memory x (Left defs (f ∷ []) (Err (Inside x)))
 
 -- a U with the turns that the expressions come to, on the qubit
 abbrev pub Turned : List Pair → List (List Op) → ℕ → Result Prim Stop → Type 0
 Turned params es q (Ok g) = (theta phi lambda : ℕ) × (g ≡ UPrim theta phi lambda q) × Each (IsTurn params) es (Ok (theta ∷ phi ∷ lambda ∷ []))
 Turned params es q (Err s) = unless_memory s.fault (Each (IsTurn params) es (Err s))
+
+abbrev pub TurnedIn : List Pair → List (List Op) → ℕ → Result Prim AngleFault → Type 0
+TurnedIn params es q (Ok g) = (theta phi lambda : ℕ) × (g ≡ UPrim theta phi lambda q) × Each (IsTurn params) es (Ok (theta ∷ phi ∷ lambda ∷ []))
+TurnedIn params es q (Err x) = unless_memory x ((s : Stop) × (s.fault ≡ x) × Each (IsTurn params) es (Err s))

@@ -6,11 +6,12 @@ ghost use Rattle.qasm_angle.specs.declared.types.Pair.{Pair};
 ghost use Rattle.qasm_angle.specs.Values.{Told};
 ghost use Rattle.qasm_angle.specs.declared.types.AngleFault.TheVariants.{Memory};
 ghost use Rattle.ps_prim.specs.Maps.{AllWithin};
-ghost use Rattle.qasm_expand.specs.declared.defs.Called.TheVariants.{Def as ADef};
+ghost use Rattle.ps_prim.specs.declared.prims.Primitive.TheVariants.{Cx as CxPrim};
+ghost use Rattle.qasm_expand.specs.declared.defs.Called.TheVariants.{U, Cx, Def as ADef};
 ghost use Rattle.qasm_expand.specs.Tables.{defs_sound, is_earlier, params_of, args_of, size_of, all_below};
 ghost use Rattle.qasm_expand.specs.Bodies.{IsValue, IsTurn, Each, call, Comes, Answers, Tells};
 ghost use Rattle.qasm_expand.specs.Targets.{exprs_of};
-ghost use Rattle.qasm_expand.specs.Frames.{InnerFits, FrameFits, stack_work, OpensTo, Does, Steps, Does_all, Turned};
+ghost use Rattle.qasm_expand.specs.Frames.{InnerFits, FrameFits, stack_work, OpensTo, Does, Steps, DoesAll, Turned, TurnedIn, frame_work};
 
 use crate::broken::{Broken, Stop};
 use crate::defs::{Called, Def, Defs, Inner};
@@ -175,4 +176,165 @@ fn opened(
         values,
         places,
     })
+}
+
+/// The `U` that an application in a frame is.
+fn universal(alloc: Global, frame: &Frame, inner: &Inner) -> Result<Prim, AngleFault>
+    requires three { length inner.now.params ≡ 3 }
+    requires one { length inner.now.args ≡ 1 }
+    requires below { all_below (length frame.now.places.items) inner.now.args ≡ true }
+    ensures { TurnedIn frame.now.values.items inner.now.params (get_or frame.now.places.items (get_or inner.now.args 0 0) 0) result }
+{
+    let exprs = inner.params.as_slice();
+    let q = frame.places[inner.args.as_slice()[0] as usize];
+    match turned(alloc, (&exprs[0], &exprs[1], &exprs[2]), &frame.values, q) {
+        Ok(prim) => Ok(prim),
+        Err(stop) => Err(stop.fault),
+    }
+}
+
+/// The `CX` that an application in a frame is.
+fn controlled(frame: &Frame, inner: &Inner) -> Prim
+    requires two { length inner.now.args ≡ 2 }
+    requires below { all_below (length frame.now.places.items) inner.now.args ≡ true }
+    ensures { result ≡ CxPrim (get_or frame.now.places.items (get_or inner.now.args 0 0) 0) (get_or frame.now.places.items (get_or inner.now.args 1 0) 0) }
+{
+    let args = inner.args.as_slice();
+    Prim::Cx {
+        c: frame.places[args[0] as usize],
+        t: frame.places[args[1] as usize],
+    }
+}
+
+/// What an application in a frame comes to.
+fn outcome(
+    alloc: Global,
+    defs: &[Def],
+    frame: &Frame,
+    inner: &Inner,
+) -> Result<Outcome, AngleFault>
+    requires frame { FrameFits defs.now frame.now }
+    requires inner { InnerFits defs.now frame.now.def (args_of defs.now (ADef frame.now.def)) inner.now }
+    ensures { Does defs.now frame.now inner.now result }
+{
+    match inner.gate {
+        Called::U => match universal(alloc, frame, inner) {
+            Ok(prim) => Ok(Outcome::Prim(prim)),
+            Err(fault) => Err(fault),
+        },
+        Called::Cx => Ok(Outcome::Prim(controlled(frame, inner))),
+        Called::Def(def) => {
+            if defs[def as usize].size == 0 {
+                return Ok(Outcome::Nothing);
+            }
+            match opened(alloc, defs, frame, inner, def) {
+                Ok(body) => Ok(Outcome::Body(body)),
+                Err(fault) => Err(fault),
+            }
+        }
+    }
+}
+
+/// Does one application of a frame.
+fn step(
+    alloc: Global,
+    defs: &[Def],
+    frame: Frame,
+    stack: &mut Vec<Frame>,
+    out: &mut Vec<Prim>,
+) -> Result<(), AngleFault>
+    requires sound { defs_sound defs.now ≡ true }
+    requires frame { FrameFits defs.now frame }
+    requires frames { All (FrameFits defs.now) stack.old.items }
+    ensures frames { OnOk result (All (FrameFits defs.now) stack.new.items) }
+    ensures less { OnOk result (stack_work defs.now stack.new.items < stack_work defs.now stack.old.items + frame_work defs.now frame) }
+    ensures steps { Steps defs.now (stack.old.items ++ frame ∷ []) stack.new.items out.old.items out.new.items result }
+{
+    let body = defs[frame.def as usize].body.as_slice();
+    if body.len() <= frame.next {
+        return Ok(());
+    }
+    let next = outcome(alloc, defs, &frame, &body[frame.next])?;
+    let mut frame = frame;
+    frame.next += 1;
+    stack.push(frame)?;
+    match next {
+        Outcome::Nothing => Ok(()),
+        Outcome::Prim(prim) => {
+            out.push(prim)?;
+            Ok(())
+        }
+        Outcome::Body(inner) => {
+            stack.push(inner)?;
+            Ok(())
+        }
+    }
+}
+
+/// Does all that is left of a body, and of the bodies that it applies.
+fn whole(alloc: Global, defs: &[Def], first: Frame) -> Result<Vec<Prim>, AngleFault>
+    requires sound { defs_sound defs.now ≡ true }
+    requires first { FrameFits defs.now first }
+    ensures { DoesAll defs.now first result }
+{
+    let mut out = Vec::new(alloc);
+    let mut stack = Vec::new(alloc);
+    stack.push(first)?;
+    while let Some(frame) = stack.pop() {
+        step(alloc, defs, frame, &mut stack, &mut out)?;
+    }
+    Ok(out)
+}
+
+/// The prims of an application of a gate with a body, outside bodies.
+fn replaced(
+    alloc: Global,
+    defs: &[Def],
+    def: u32,
+    formulas: &[Formula],
+) -> Result<Vec<Prim>, Broken>
+    requires sound { defs_sound defs.now ≡ true }
+    requires there { def < length defs.now }
+    ensures { Tells result (Comes defs.now [] (call (ADef def) (exprs_of formulas.now))) }
+{
+    let gate = &defs[def as usize];
+    if gate.size == 0 {
+        return Ok(Vec::new(alloc));
+    }
+    let values = match own_values(alloc, formulas) {
+        Ok(values) => values,
+        Err(stop) => return Err(Broken::Own(stop)),
+    };
+    let places = match first_places(alloc, gate.args) {
+        Ok(places) => places,
+        Err(_) => return Err(Broken::Inside(AngleFault::Memory)),
+    };
+    let first = Frame {
+        def,
+        next: 0,
+        values,
+        places,
+    };
+    match whole(alloc, defs, first) {
+        Ok(prims) => Ok(prims),
+        Err(fault) => Err(Broken::Inside(fault)),
+    }
+}
+
+/// One prim.
+fn one(alloc: Global, prim: Prim) -> Result<Vec<Prim>, AllocError>
+    ensures { IfOk result (λ v. v.items ≡ prim ∷ []) }
+{
+    let mut prims = Vec::new(alloc);
+    prims.push(prim)?;
+    Ok(prims)
+}
+
+/// The prim of an application of `U`, outside bodies.
+fn own_universal(alloc: Global, formulas: &[Formula]) -> Result<Prim, Stop>
+    requires { length formulas.now ≡ 3 }
+    ensures { Turned [] (exprs_of formulas.now) 0 result }
+{
+    let exprs = (&formulas[0].expr, &formulas[1].expr, &formulas[2].expr);
+    turned(alloc, exprs, &[], 0)
 }
