@@ -2,3 +2,4 @@ pub mod Expressions
 pub mod Fitting
 pub mod Prims
 pub mod Machine
+pub mod Steps

@@ -1,6 +1,6 @@
 //! What applications come to.
 
-ghost use Rattle.std.specs.Prelude.{MatchResult, ◌≢◌, ◌≡◌, ◌≤◌, ◌<◌, ◌++◌, ◌∷◌, [], ℕ, true, length, map, get_or, slice_get, Some, All, OnOk, OnErr, IfOk};
+ghost use Rattle.std.specs.Prelude.{MatchResult, ◌≢◌, ◌≡◌, ◌+◌, ◌≤◌, ◌<◌, ◌++◌, ◌∷◌, [], ℕ, true, length, map, get_or, slice_get, Some, All, OnOk, OnErr, IfOk};
 ghost use Rattle.std.specs.List.{range_with_len};
 ghost use Rattle.qasm_angle.specs.declared.types.Pair.{Pair};
 ghost use Rattle.qasm_angle.specs.Values.{Told};
@@ -254,7 +254,10 @@ fn step(
     if body.len() <= frame.next {
         return Ok(());
     }
-    let next = outcome(alloc, defs, &frame, &body[frame.next])?;
+    let next = match outcome(alloc, defs, &frame, &body[frame.next]) {
+        Ok(next) => next,
+        Err(fault) => return Err(fault),
+    };
     let mut frame = frame;
     frame.next += 1;
     stack.push(frame)?;
@@ -337,4 +340,38 @@ fn own_universal(alloc: Global, formulas: &[Formula]) -> Result<Prim, Stop>
 {
     let exprs = (&formulas[0].expr, &formulas[1].expr, &formulas[2].expr);
     turned(alloc, exprs, &[], 0)
+}
+
+/// The prims of an application outside bodies, on the places of its arguments: its body, and
+/// the bodies of the gates in it, with parameters and arguments replaced.
+///
+/// A gate of size 0 comes to none, whatever its expressions. `Own` is a fault of one of the
+/// expressions of the application, with the number of the expression, and `Inside` the first
+/// fault in a body. `Memory` can come in place of any answer.
+pub fn comes(
+    alloc: Global,
+    defs: &Defs,
+    gate: Called,
+    formulas: &[Formula],
+) -> Result<Vec<Prim>, Broken>
+    requires sound { defs_sound defs.now ≡ true }
+    requires there { is_earlier (length defs.now) gate ≡ true }
+    requires arity { length formulas.now ≡ params_of defs.now gate }
+    requires few { size_of defs.now gate ≤ 4096 }
+    ensures told { Tells result (Comes defs.now [] (call gate (exprs_of formulas.now))) }
+    ensures count { IfOk result (λ v. length v.items ≤ size_of defs.now gate) }
+    ensures within { IfOk result (λ v. AllWithin (args_of defs.now gate) v.items) }
+{
+    let prim = match gate {
+        Called::U => match own_universal(alloc, formulas) {
+            Ok(prim) => prim,
+            Err(stop) => return Err(Broken::Own(stop)),
+        },
+        Called::Cx => Prim::Cx { c: 0, t: 1 },
+        Called::Def(def) => return replaced(alloc, defs.as_slice(), def, formulas),
+    };
+    match one(alloc, prim) {
+        Ok(prims) => Ok(prims),
+        Err(_) => Err(Broken::Inside(AngleFault::Memory)),
+    }
 }
