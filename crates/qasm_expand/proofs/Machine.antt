@@ -49,7 +49,7 @@ module _ (defs : List Def) where
   fits_from n args [] (suc k) h = h
   fits_from n args (i ∷ is) (suc k) h = fits_from n args is k h.1
 
-  left_is : (f : Frame) (g : Def) → slice_get defs f.def ≡ Some g → left_of defs f ≡ drop f.next g.body
+  pub left_is : (f : Frame) (g : Def) → slice_get defs f.def ≡ Some g → left_of defs f ≡ drop f.next g.body
   left_is f g e = ap (λ o. drop f.next (body_of_def o)) e
 
   pub left_cons : (f f' : Frame) (g : Def) (i : Inner) → slice_get defs f.def ≡ Some g → f.next < length g.body → i ≡ get_or g.body f.next i → f'.def ≡ f.def → f'.next ≡ f.next + 1 → left_of defs f ≡ i ∷ left_of defs f'

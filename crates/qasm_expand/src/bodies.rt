@@ -8,6 +8,7 @@ ghost use Rattle.qasm_angle.specs.declared.types.AngleFault.TheVariants.{Memory}
 ghost use Rattle.ps_prim.specs.Maps.{AllWithin};
 ghost use Rattle.ps_prim.specs.declared.prims.Primitive.TheVariants.{Cx as CxPrim};
 ghost use Rattle.qasm_expand.specs.declared.defs.Called.TheVariants.{U, Cx, Def as ADef};
+ghost use Rattle.qasm_expand.specs.declared.broken.Broken.TheVariants.{Inside};
 ghost use Rattle.qasm_expand.specs.Tables.{defs_sound, is_earlier, params_of, args_of, size_of, all_below};
 ghost use Rattle.qasm_expand.specs.Bodies.{IsValue, IsTurn, Each, call, Comes, Answers, Tells};
 ghost use Rattle.qasm_expand.specs.Targets.{exprs_of};
@@ -224,7 +225,8 @@ fn outcome(
         },
         Called::Cx => Ok(Outcome::Prim(controlled(frame, inner))),
         Called::Def(def) => {
-            if defs[def as usize].size == 0 {
+            let gate = &defs[def as usize];
+            if gate.size == 0 {
                 return Ok(Outcome::Nothing);
             }
             match opened(alloc, defs, frame, inner, def) {
@@ -284,7 +286,10 @@ fn whole(alloc: Global, defs: &[Def], first: Frame) -> Result<Vec<Prim>, AngleFa
     let mut stack = Vec::new(alloc);
     stack.push(first)?;
     while let Some(frame) = stack.pop() {
-        step(alloc, defs, frame, &mut stack, &mut out)?;
+        match step(alloc, defs, frame, &mut stack, &mut out) {
+            Ok(()) => {}
+            Err(fault) => return Err(fault),
+        }
     }
     Ok(out)
 }
@@ -325,12 +330,14 @@ fn replaced(
 }
 
 /// One prim.
-fn one(alloc: Global, prim: Prim) -> Result<Vec<Prim>, AllocError>
-    ensures { IfOk result (λ v. v.items ≡ prim ∷ []) }
+fn single(alloc: Global, prim: Prim) -> Result<Vec<Prim>, Broken>
+    ensures { MatchResult result (λ v. v.items ≡ prim ∷ []) (λ b. b ≡ Inside Memory) }
 {
     let mut prims = Vec::new(alloc);
-    prims.push(prim)?;
-    Ok(prims)
+    match prims.push(prim) {
+        Ok(_) => Ok(prims),
+        Err(_) => Err(Broken::Inside(AngleFault::Memory)),
+    }
 }
 
 /// The prim of an application of `U`, outside bodies.
@@ -362,16 +369,12 @@ pub fn comes(
     ensures count { IfOk result (λ v. length v.items ≤ size_of defs.now gate) }
     ensures within { IfOk result (λ v. AllWithin (args_of defs.now gate) v.items) }
 {
-    let prim = match gate {
+    match gate {
         Called::U => match own_universal(alloc, formulas) {
-            Ok(prim) => prim,
-            Err(stop) => return Err(Broken::Own(stop)),
+            Ok(prim) => single(alloc, prim),
+            Err(stop) => Err(Broken::Own(stop)),
         },
-        Called::Cx => Prim::Cx { c: 0, t: 1 },
-        Called::Def(def) => return replaced(alloc, defs.as_slice(), def, formulas),
-    };
-    match one(alloc, prim) {
-        Ok(prims) => Ok(prims),
-        Err(_) => Err(Broken::Inside(AngleFault::Memory)),
+        Called::Cx => single(alloc, Prim::Cx { c: 0, t: 1 }),
+        Called::Def(def) => replaced(alloc, defs.as_slice(), def, formulas),
     }
 }

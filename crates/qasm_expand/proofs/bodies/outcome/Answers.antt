@@ -5,13 +5,10 @@ use Rattle.qasm_expand.proofs.bodies.outcome.Goals as goal
 pub bounds-defs-def : goal.bounds-defs-def
 bounds-defs-def c = let h = gate_below c.args.frame.now.def c.in-Def.def c.args.inner.now.gate c.in-Def.is c.requires.inner.earlier in omega (arith, h)
 
-pub bounds-defs-def-in-Def : goal.bounds-defs-def-in-Def
-bounds-defs-def-in-Def c = let h = gate_below c.args.frame.now.def c.in-Def.def c.args.inner.now.gate c.in-Def.is c.requires.inner.earlier in omega (arith, h)
-
-pub returns-then-defs-def-eq0 : goal.returns-then-defs-def-eq0
-returns-then-defs-def-eq0 c =
+pub returns-then-gate-eq0 : goal.returns-then-gate-eq0
+returns-then-gate-eq0 c =
     let h = gate_below c.args.frame.now.def c.in-Def.def c.args.inner.now.gate c.in-Def.is c.requires.inner.earlier in
-    none_made c.args.defs.now c.args.frame.now c.args.inner.now c.in-Def.def c.index-defs-def.result c.in-Def.is (omega (arith, h)) c.index-defs-def.is c.if-defs-def-eq0.true
+    none_made c.args.defs.now c.args.frame.now c.args.inner.now c.in-Def.def c.index-defs-def.result c.in-Def.is (omega (arith, h)) c.index-defs-def.is c.if-gate-eq0.true
 
 pub opened-requires-clause-there : goal.opened-requires-clause-there
 opened-requires-clause-there c = let h = gate_below c.args.frame.now.def c.in-Def.def c.args.inner.now.gate c.in-Def.is c.requires.inner.earlier in omega (arith, h)
@@ -22,7 +19,7 @@ opened-requires-clause-earlier c = gate_below c.args.frame.now.def c.in-Def.def 
 pub opened-requires-clause-some : goal.opened-requires-clause-some
 opened-requires-clause-some c =
     let h = gate_below c.args.frame.now.def c.in-Def.def c.args.inner.now.gate c.in-Def.is c.requires.inner.earlier in
-    some_made c.args.defs.now c.args.frame.now c.args.inner.now c.in-Def.def c.index-defs-def.result (omega (arith, h)) c.index-defs-def.is c.if-defs-def-eq0.false
+    some_made c.args.defs.now c.args.frame.now c.args.inner.now c.in-Def.def c.index-defs-def.result (omega (arith, h)) c.index-defs-def.is c.if-gate-eq0.false
 
 pub returns-in-Ok : goal.returns-in-Ok
 returns-in-Ok c = universal_made c.args.defs.now c.args.frame.now c.args.inner.now c.in-Ok.prim c.in-U.is c.in-Ok.ensures
