@@ -219,3 +219,7 @@ module _ (defs : List Def) (gate : Called) (es : List (List Op)) where
 
   pub told_replaced : (r : Result (Vec Prim Global) Broken) (d : ℕ) → gate ≡ ADef d → Tells r (Comes defs [] (call (ADef d) es)) → Told r
   told_replaced r d e h = subst (λ c. Tells r (Comes defs [] (call c es))) (sym e) h
+
+pub no_frames : (fs : List Frame) → length fs ≡ 0 → fs ≡ []
+no_frames [] n = refl
+no_frames (f ∷ fs) n = absurd (omega arith)

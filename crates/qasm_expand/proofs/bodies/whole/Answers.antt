@@ -1,7 +1,9 @@
-use Rattle.std.proofs.Common.{◌≡◌, ◌<◌, ◌+◌, ◌∷◌, [], ◌++◌, ◌∙◌, ap, arith, length, sym, refl}
+use Rattle.std.proofs.Common.{◌≡◌, ◌<◌, ◌+◌, ◌∷◌, [], ◌++◌, ◌∙◌, ap, arith, length, sym, refl, subst, vec_len, rules, None}
+use Rattle.std.specs.Prelude.{MatchOption}
+use Rattle.qasm_expand.specs.declared.frame.Frame.{Frame}
 use Rattle.qasm_expand.specs.Frames.{stack_work, frame_work}
 use Rattle.qasm_expand.proofs.Machine.{stack_work_more}
-use Rattle.qasm_expand.proofs.Steps.{whole_start, whole_next, whole_off, whole_end}
+use Rattle.qasm_expand.proofs.Steps.{whole_start, whole_next, whole_off, whole_end, no_frames}
 use Rattle.qasm_expand.proofs.bodies.whole.Goals as goal
 
 pub loop-frame-smaller : goal.loop-frame-smaller
@@ -20,4 +22,9 @@ pub returns-in-Err : goal.returns-in-Err
 returns-in-Err c = whole_off c.args.defs.now c.args.first c.loop-frame.stack.items c.pop.new.self.items c.step.new.stack.items c.in-Some.frame c.loop-frame.out.items c.step.new.out.items c.in-Err.fault c.loop-frame.invariant.rest c.in-Some.ensures.items c.in-Err.ensures.steps
 
 pub returns : goal.returns
-returns c = whole_end c.args.defs.now c.args.first c.loop-frame.stack.items c.loop-frame.out.items c.loop-frame.invariant.rest (let h = c.pop.ensures.variant in let k = c.pop.ensures.cases in ?)
+returns c =
+    let k : MatchOption None (vec_len c.loop-frame.stack ≡ 0 × vec_len c.pop.new.self ≡ 0) (λ (x : Frame). vec_len c.pop.new.self + 1 ≡ vec_len c.loop-frame.stack) =
+      subst (λ o. MatchOption o (vec_len c.loop-frame.stack ≡ 0 × vec_len c.pop.new.self ≡ 0) (λ (x : Frame). vec_len c.pop.new.self + 1 ≡ vec_len c.loop-frame.stack)) c.in_default.is c.pop.ensures.cases in
+    let m : vec_len c.loop-frame.stack ≡ length c.loop-frame.stack.items = search rules in
+    let n : length c.loop-frame.stack.items ≡ 0 = sym m ∙ k.0 in
+    whole_end c.args.defs.now c.args.first c.loop-frame.stack.items c.loop-frame.out.items c.loop-frame.invariant.rest (no_frames c.loop-frame.stack.items n)
