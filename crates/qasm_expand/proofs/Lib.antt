@@ -3,3 +3,4 @@ pub mod Fitting
 pub mod Prims
 pub mod Machine
 pub mod Steps
+pub mod Outcomes
