@@ -2,12 +2,12 @@ pub mod Tables
 pub mod Maps
 pub mod Checks
 pub mod Gates
-pub mod Library
 pub mod Names
+pub mod Library
 pub mod States
 pub mod Bodies
+pub mod Frames
 pub mod Targets
-pub mod Aims
 pub mod Aims
 pub mod Statements
 pub mod Circuits

@@ -16,7 +16,7 @@ ghost use Rattle.qasm_expand.specs.Aims.{Within};
 use crate::bodies::comes;
 use crate::broken::Broken;
 use crate::fault::{FaultName, ReadFault};
-use crate::items::Items;
+use crate::item_list::Items;
 use crate::state::State;
 use crate::target::Target;
 use crate::targets::{aim, index_count, qubit, targets};
