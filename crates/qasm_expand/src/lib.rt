@@ -6,6 +6,7 @@ pub mod broken;
 pub mod defs;
 pub mod fault;
 pub mod items;
+pub mod library;
 pub mod registers;
 pub mod state;
 pub mod target;
