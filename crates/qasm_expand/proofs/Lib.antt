@@ -1,1 +1,4 @@
-mod Naming
+mod Lookups
+mod Stepping
+mod Renumbering
+mod Soundness

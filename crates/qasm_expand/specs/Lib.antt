@@ -2,6 +2,7 @@ pub mod Tables
 pub mod Maps
 pub mod Checks
 pub mod Gates
+pub mod Names
 pub mod Library
 pub mod States
 pub mod Bodies

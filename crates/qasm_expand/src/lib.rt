@@ -5,9 +5,12 @@ pub mod bounds;
 pub mod broken;
 pub mod defs;
 pub mod fault;
+pub mod formals;
 pub mod items;
 pub mod library;
+pub mod naming;
 pub mod registers;
+pub mod spelling;
 pub mod state;
 pub mod target;
 

@@ -1,7 +1,7 @@
 use Rattle.std.proofs.Common.{◌∙◌, sym, ap, List, ℕ, map}
 use Rattle.qasm_expand.specs.Tables.{rebound}
 use Rattle.qasm_expand.specs.Maps.{bound_of}
-use Rattle.qasm_expand.proofs.Naming.{rebound_entries}
+use Rattle.qasm_expand.proofs.Lookups.{rebound_entries}
 use Rattle.qasm_expand.proofs.bounds.Bounds.rebind.Goals as goal
 
 pub returns : goal.returns

@@ -1,0 +1,27 @@
+-- Lists of names as they are kept, what a step over a body does, and what a call answered.
+use Rattle.std.specs.Prelude.{◌≡◌, ℕ, List, ◌∷◌, ◌++◌, Result, Ok, Err}
+use Rattle.std.specs.declared.vec.Vec.{Vec}
+use Rattle.std.specs.declared.alloc.Global.{Global}
+use Rattle.qasm_parse.specs.declared.program.Inner.{Inner as Stated}
+use Rattle.qasm_expand.specs.declared.defs.Inner.{Inner}
+use Rattle.qasm_expand.specs.declared.defs.Def.{Def}
+use Rattle.qasm_expand.specs.declared.fault.FaultName.{FaultName}
+use Rattle.qasm_expand.specs.declared.fault.ReadFault.{ReadFault}
+use Rattle.qasm_expand.specs.declared.fault.ReadFault.TheVariants.{Fault, Memory}
+use Rattle.qasm_expand.specs.Tables.{Bound}
+use Rattle.qasm_expand.specs.Gates.{body_of}
+
+-- a list before what comes behind it
+abbrev pub put_before : {A E : Type 0} → List A → Result (List A) E → Result (List A) E
+put_before xs (Ok ys) = Ok (xs ++ ys)
+put_before xs (Err e) = Err e
+
+-- nothing more is known than that all is well, or the fault
+abbrev pub checked : {A E : Type 0} → Result A E → Result (Unit {0}) E
+checked (Ok a) = Ok tt
+checked (Err e) = Err e
+
+-- with these applications so far, a statement of a body leads to those, or to its fault, whatever comes behind it
+abbrev pub Leads : List ℕ → List Def → List Bound → List (List ℕ) → List (List ℕ) → Stated → List Inner → Result (List Inner) ReadFault → Type 0
+Leads bytes defs bound params args s old (Ok new) = (ss : List Stated) → put_before old (body_of bytes defs bound params args (s ∷ ss)) ≡ put_before new (body_of bytes defs bound params args ss)
+Leads bytes defs bound params args s old (Err f) = (ss : List Stated) → body_of bytes defs bound params args (s ∷ ss) ≡ Err f
