@@ -186,6 +186,9 @@ arity_right true true e = (refl, refl)
 arity_right true false e = absurd (true≢false e)
 arity_right false b e = absurd (true≢false e)
 
+abbrev record_of : Called → List (List Op) → List ℕ → Inner
+record_of gate es qs = record { gate = gate; params = es; args = qs }
+
 inner_is_sound : (bytes : List ℕ) (defs : List Def) (bound : List Bound) (params args : List (List ℕ)) (c : Call) (i : Inner) → bound_sound (length defs) bound ≡ true → CallIn bytes c → inner_of bytes defs bound params args c ≡ Ok i → inner_sound defs (length params) (length args) i ≡ true
 unfolding inner_sound
 inner_is_sound bytes defs bound params args c i h within e =
@@ -201,10 +204,6 @@ inner_is_sound bytes defs bound params args c i h within e =
     subst (λ y. inner_sound defs (length params) (length args) y ≡ true) k
     (both_and (called_earlier (length defs) bytes bound c.gate c.at g.0 h g.1) (both_and (ap (λ m. nat_eq m (params_of defs g.0)) xs.1 ∙ n.0) (both_and xs.0
     (both_and (ap (λ m. nat_eq m (args_of defs g.0)) (ps.1 ∙ length-map (λ a. a.name) c.args) ∙ n.1) (both_and ps.0 (different [] q.0 (arg_names c.args) ps.1 d.0).0)))))
-  where
-    abbrev record_of : Called → List (List Op) → List ℕ → Inner
-    record_of gate es qs = record { gate = gate; params = es; args = qs }
-
 pub body_is_sound : (bytes : List ℕ) (defs : List Def) (bound : List Bound) (params args : List (List ℕ)) (ss : List Stated) (is : List Inner) → bound_sound (length defs) bound ≡ true → All (InnerIn bytes) ss → body_of bytes defs bound params args ss ≡ Ok is → body_sound defs (length params) (length args) is ≡ true
 unfolding body_of body_sound
 body_is_sound bytes defs bound params args [] is h within e = let k : [] ≡ is = cc in subst (λ y. body_sound defs (length params) (length args) y ≡ true) k refl
@@ -217,18 +216,17 @@ body_is_sound bytes defs bound params args (Barrier ps ∷ ss) is h within e =
     let p = inv_then (places bytes args ps) (λ qs. body_of bytes defs bound params args ss) is e in
     body_is_sound bytes defs bound params args ss is h (λ k d lt. within (suc k) d (omega (arith, lt))) p.2
 
+abbrev made : List Def → List Span → List Span → List Inner → Def
+made defs params args is = record { params = length params; args = length args; size = body_size defs is; body = is }
+
 pub def_is_sound : (bytes : List ℕ) (defs : List Def) (bound : List Bound) (params args : List Span) (ss : List Stated) (d : Def) → bound_sound (length defs) bound ≡ true → All (InnerIn bytes) ss → def_of bytes defs bound params args ss ≡ Ok d → def_sound defs d ≡ true
 def_is_sound bytes defs bound params args ss d h within e =
     let a = inv_unless _ (first_again bytes [] params) _ d e in
     let b = inv_unless _ (first_again bytes [] args) _ d a.1 in
     let p = inv_then (body_of bytes defs bound (names bytes params) (names bytes args) ss) _ d b.1 in
-    let k : made p.0 ≡ d = cc in
+    let k : made defs params args p.0 ≡ d = cc in
     let s = body_is_sound bytes defs bound (names bytes params) (names bytes args) ss p.0 h within p.1 in
     subst (λ y. def_sound defs y ≡ true) k (both_and (subst₂ (λ m n. body_sound defs m n p.0 ≡ true) (length-map (spelled bytes) params) (length-map (spelled bytes) args) s) (eq-eqb (body_size defs p.0) (body_size defs p.0) refl))
-  where
-    abbrev made : List Inner → Def
-    made is = record { params = length params; args = length args; size = body_size defs is; body = is }
-
 -- ---- lists of gates and of names
 defs_from : (before : List Def) (ds : List Def) (d : Def) → defs_sound_from before ds ≡ true → def_sound (before ++ ds) d ≡ true → defs_sound_from before (ds ++ d ∷ []) ≡ true
 unfolding defs_sound_from

@@ -27,6 +27,11 @@ known_err Memory r P Q e go h = subst (λ s. Known s Q) (sym e) tt
 pub known_memory : {B : Type 0} (f : ReadFault) (r : Result B ReadFault) (Q : Result B ReadFault → Type 0) → r ≡ Err f → f ≡ Memory → Known r Q
 known_memory f r Q e m = subst (λ s. Known s Q) (sym (e ∙ ap Err m)) tt
 
+-- a fault that is told
+pub known_fault : {A : Type 0} (f : ReadFault) (P : Result A ReadFault → Type 0) → P (Err f) → Known {A = A} (Err f) P
+known_fault (Fault name at) P h = h
+known_fault Memory P h = tt
+
 pub then_ok : {A B E : Type 0} {r : Result A E} {a : A} (k : A → Result B E) → Ok a ≡ r → and_then r k ≡ k a
 then_ok k e = ap (λ r. and_then r k) (sym e)
 
@@ -118,6 +123,10 @@ again_found bytes out p ps rest w s n h = h ∙ ap (first_again bytes out) s ∙
     by None e = absurd (true≢false e)
     by (Some i) e = refl
 
+pub again_end : (bytes : List ℕ) (out : List (List ℕ)) (ps : List Span) (w : Option Span) → ps ≡ [] → w ≡ first_again bytes out ps → w ≡ None
+unfolding first_again
+again_end bytes out ps w e g = g ∙ ap (first_again bytes out) e
+
 pub names_next : (bytes : List ℕ) (out : List (List ℕ)) (p : Span) (ps rest : List Span) (w : List (List ℕ)) → ps ≡ p ∷ rest → w ≡ out ++ names bytes ps → w ≡ (out ++ spelled bytes p ∷ []) ++ names bytes rest
 names_next bytes out p ps rest w s h = h ∙ ap (λ l. out ++ names bytes l) s ∙ sym (append_assoc out (spelled bytes p ∷ []) (names bytes rest))
 
@@ -169,3 +178,11 @@ repeated_found seen keys q p qs qs' ps ps' w h n e f g = g ∙ ap₂ (λ a b. fi
 pub repeated_end : (seen qs : List ℕ) (ps : List Span) (w : Option Span) → qs ≡ [] → w ≡ first_repeated seen qs ps → w ≡ None
 unfolding first_repeated
 repeated_end seen qs ps w e g = g ∙ ap (λ a. first_repeated seen a ps) e
+
+pub not_false : (b : Bool) → not b ≡ false → b ≡ true
+not_false true e = refl
+not_false false e = absurd (true≢false e)
+
+pub not_true : (b : Bool) → not b ≡ true → b ≡ false
+not_true true e = absurd (true≢false (sym e))
+not_true false e = refl

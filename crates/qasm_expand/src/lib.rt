@@ -6,6 +6,7 @@ pub mod broken;
 pub mod defs;
 pub mod fault;
 pub mod formals;
+pub mod gates;
 pub mod items;
 pub mod library;
 pub mod naming;
