@@ -2,3 +2,4 @@ mod Lookups
 mod Stepping
 mod Renumbering
 mod Soundness
+mod Bodies

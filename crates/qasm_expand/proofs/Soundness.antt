@@ -96,7 +96,7 @@ places_sound bytes formals ps qs e =
     let z = zip_each (place_at bytes formals Unknown) ps qs (sym (places_each bytes formals ps) ∙ e) in
     (zip_below _ (length formals) (λ p i h. place_below formals (spelled bytes p) i (inv_or_fault Unknown p _ i h)) ps qs z, zip_length _ ps qs z)
 
-numbers_sound : (bytes : List ℕ) (formals : List (List ℕ)) (ps : List Span) (qs : List ℕ) → numbers bytes formals ps ≡ Ok qs → (all_below (length formals) qs ≡ true) × (length qs ≡ length ps)
+pub numbers_sound : (bytes : List ℕ) (formals : List (List ℕ)) (ps : List Span) (qs : List ℕ) → numbers bytes formals ps ≡ Ok qs → (all_below (length formals) qs ≡ true) × (length qs ≡ length ps)
 numbers_sound bytes formals ps qs e =
     let z = zip_each (place_at bytes formals NoParameter) ps qs (sym (numbers_each bytes formals ps) ∙ e) in
     (zip_below _ (length formals) (λ p i h. place_below formals (spelled bytes p) i (inv_or_fault NoParameter p _ i h)) ps qs z, zip_length _ ps qs z)
@@ -105,7 +105,7 @@ different : (seen qs : List ℕ) (ps : List Span) → length qs ≡ length ps �
 unfolding first_repeated all_different is_among
 different seen [] ps l e = (refl, λ x h. refl)
 different seen (q ∷ qs) [] l e = absurd (let h : length (q ∷ qs) ≡ length qs + 1 = omega arith in omega (arith, l, h))
-different seen (q ∷ qs) (p ∷ ps) l e = by (is_among q seen) refl e
+different seen (q ∷ qs) (p ∷ ps) l e = by (is_among q seen) refl (different (q ∷ seen) qs ps (let k : length qs ≡ length ps = omega (arith, l) in k)) e
   where
     self : (b : Bool) → b ≡ true → (if b then true else is_among q seen) ≡ true
     self b h = ap (λ b. if b then true else is_among q seen) h
@@ -115,10 +115,10 @@ different seen (q ∷ qs) (p ∷ ps) l e = by (is_among q seen) refl e
     new : (x : ℕ) → is_among x seen ≡ true → is_among q seen ≡ false → is_among x qs ≡ false → (b : Bool) → nat_eq x q ≡ b → (if b then true else is_among x qs) ≡ false
     new x h n i true t = absurd (true≢false (sym h ∙ ap (λ y. is_among y seen) (eqb-true x q t) ∙ n))
     new x h n i false t = i
-    by : (b : Bool) → is_among q seen ≡ b → (if b then Some p else first_repeated (q ∷ seen) qs ps) ≡ None → (all_different (q ∷ qs) ≡ true) × ((x : ℕ) → is_among x seen ≡ true → is_among x (q ∷ qs) ≡ false)
-    by true n g = absurd (cc)
-    by false n g =
-        let ih = different (q ∷ seen) qs ps (let k : length qs ≡ length ps = omega (arith, l) in k) g in
+    by : (b : Bool) → is_among q seen ≡ b → (first_repeated (q ∷ seen) qs ps ≡ None → (all_different qs ≡ true) × ((x : ℕ) → is_among x (q ∷ seen) ≡ true → is_among x qs ≡ false)) → (if b then Some p else first_repeated (q ∷ seen) qs ps) ≡ None → (all_different (q ∷ qs) ≡ true) × ((x : ℕ) → is_among x seen ≡ true → is_among x (q ∷ qs) ≡ false)
+    by true n rest g = absurd (cc)
+    by false n rest g =
+        let ih = rest g in
         (ap₂ (λ a b. not a && b) (ih.1 q (self (nat_eq q q) (eq-eqb q q refl))) ih.0, λ x h. new x h n (ih.1 x (old x h (nat_eq x q))) (nat_eq x q) refl)
 
 -- ---- expressions
@@ -142,11 +142,8 @@ expression_sound : (bytes : List ℕ) (formals : List (List ℕ)) (f : Formula) 
 expression_sound bytes formals f e h g =
     let p = inv_then (numbers bytes formals f.ids) (λ is. Ok (map (renumbered is) f.expr)) e g in
     let s = numbers_sound bytes formals f.ids p.0 p.1 in
-    let o : map (renumbered p.0) f.expr ≡ e = ok_same p.2 in
+    let w = p.2 in let o : map (renumbered p.0) f.expr ≡ e = cc in
     subst (λ x. ops_below (length formals) x ≡ true) o (ops_kept (length formals) p.0 f.expr s.0 (subst (λ n. All (IdBelow n) f.expr) (sym s.1) h.1))
-  where
-    ok_same : {A : Type 0} {x y : A} → Ok {E = ReadFault} x ≡ Ok y → x ≡ y
-    ok_same e = cc
 
 zip_exprs : (bytes : List ℕ) (formals : List (List ℕ)) (fs : List Formula) (es : List (List Op)) → All (FormulaIn bytes) fs → Zip (λ f e. expression bytes formals f ≡ Ok e) fs es → exprs_below (length formals) es ≡ true
 unfolding exprs_below
@@ -154,7 +151,7 @@ zip_exprs bytes formals fs [] h z = refl
 zip_exprs bytes formals [] (e ∷ es) h z = absurd z
 zip_exprs bytes formals (f ∷ fs) (e ∷ es) h z = both_and (expression_sound bytes formals f e (h 0 f (omega arith)) z.0) (zip_exprs bytes formals fs es (λ k d lt. h (suc k) d (omega (arith, lt))) z.1)
 
-expressions_sound : (bytes : List ℕ) (formals : List (List ℕ)) (fs : List Formula) (es : List (List Op)) → All (FormulaIn bytes) fs → expressions bytes formals fs ≡ Ok es → (exprs_below (length formals) es ≡ true) × (length es ≡ length fs)
+pub expressions_sound : (bytes : List ℕ) (formals : List (List ℕ)) (fs : List Formula) (es : List (List Op)) → All (FormulaIn bytes) fs → expressions bytes formals fs ≡ Ok es → (exprs_below (length formals) es ≡ true) × (length es ≡ length fs)
 expressions_sound bytes formals fs es h e =
     let z = zip_each (expression bytes formals) fs es (sym (expressions_each bytes formals fs) ∙ e) in
     (zip_exprs bytes formals fs es h z, zip_length _ fs es z)
@@ -200,10 +197,10 @@ inner_is_sound bytes defs bound params args c i h within e =
     let n = arity_right (nat_eq (length c.params) (params_of defs g.0)) (nat_eq (length c.args) (args_of defs g.0)) t.0 in
     let ps = places_sound bytes args (arg_names c.args) q.0 q.1 in
     let xs = expressions_sound bytes params c.params x.0 within.1 x.1 in
-    let k : record_of g.0 x.0 q.0 ≡ i = cc in
+    let w = x.2 in let k : record_of g.0 x.0 q.0 ≡ i = cc in
     subst (λ y. inner_sound defs (length params) (length args) y ≡ true) k
     (both_and (called_earlier (length defs) bytes bound c.gate c.at g.0 h g.1) (both_and (ap (λ m. nat_eq m (params_of defs g.0)) xs.1 ∙ n.0) (both_and xs.0
-    (both_and (ap (λ m. nat_eq m (args_of defs g.0)) (ps.1 ∙ length-map (λ a. a.name) c.args) ∙ n.1) (both_and ps.0 (different [] q.0 (arg_names c.args) ps.1 d.0).0)))))
+    (both_and (ap (λ m. nat_eq m (args_of defs g.0)) (ps.1 ∙ length-map c.args (λ a. a.name)) ∙ n.1) (both_and ps.0 (different [] q.0 (arg_names c.args) ps.1 d.0).0)))))
 pub body_is_sound : (bytes : List ℕ) (defs : List Def) (bound : List Bound) (params args : List (List ℕ)) (ss : List Stated) (is : List Inner) → bound_sound (length defs) bound ≡ true → All (InnerIn bytes) ss → body_of bytes defs bound params args ss ≡ Ok is → body_sound defs (length params) (length args) is ≡ true
 unfolding body_of body_sound
 body_is_sound bytes defs bound params args [] is h within e = let k : [] ≡ is = cc in subst (λ y. body_sound defs (length params) (length args) y ≡ true) k refl
@@ -224,9 +221,9 @@ def_is_sound bytes defs bound params args ss d h within e =
     let a = inv_unless _ (first_again bytes [] params) _ d e in
     let b = inv_unless _ (first_again bytes [] args) _ d a.1 in
     let p = inv_then (body_of bytes defs bound (names bytes params) (names bytes args) ss) _ d b.1 in
-    let k : made defs params args p.0 ≡ d = cc in
+    let w = p.2 in let k : made defs params args p.0 ≡ d = cc in
     let s = body_is_sound bytes defs bound (names bytes params) (names bytes args) ss p.0 h within p.1 in
-    subst (λ y. def_sound defs y ≡ true) k (both_and (subst₂ (λ m n. body_sound defs m n p.0 ≡ true) (length-map (spelled bytes) params) (length-map (spelled bytes) args) s) (eq-eqb (body_size defs p.0) (body_size defs p.0) refl))
+    subst (λ y. def_sound defs y ≡ true) k (both_and (subst₂ (λ m n. body_sound defs m n p.0 ≡ true) (length-map params (spelled bytes)) (length-map args (spelled bytes)) s) (eq-eqb (body_size defs p.0) (body_size defs p.0) refl))
 -- ---- lists of gates and of names
 defs_from : (before : List Def) (ds : List Def) (d : Def) → defs_sound_from before ds ≡ true → def_sound (before ++ ds) d ≡ true → defs_sound_from before (ds ++ d ∷ []) ≡ true
 unfolding defs_sound_from

@@ -1,7 +1,16 @@
 //! The library, its including, and definitions.
 
-ghost use Rattle.std.specs.Prelude.{◌≡◌};
-ghost use Rattle.qasm_expand.specs.Library.{library_text};
+ghost use Rattle.std.specs.Prelude.{◌≡◌, OnOk, All};
+ghost use Rattle.qasm_parse.specs.Places.{SpanIn, InnerIn};
+ghost use Rattle.qasm_expand.specs.Library.{library_text, is_own as is_own_by, is_outside as is_outside_by, defining};
+ghost use Rattle.qasm_expand.specs.States.{IsSound, Became};
+
+use crate::fault::{FaultName, ReadFault};
+use crate::gates::define;
+use crate::spelling::{fault, spelled};
+use crate::state::{Shelf, State};
+use qasm_parse::{Inner as Stated, Span};
+use std::alloc::Global;
 
 const LIBRARY: &[u8] = b"OPENQASM 2.0;
 gate u3(theta,phi,lambda) q { U(theta,phi,lambda) q; }
@@ -46,4 +55,58 @@ fn text() -> &'static [u8]
     ensures { result.now ≡ library_text }
 {
     LIBRARY
+}
+
+/// The gate is none of the library's.
+fn is_outside(library: Option<Shelf>, def: u32) -> bool
+    ensures { result ≡ is_outside_by library def }
+{
+    match library {
+        Some(shelf) => !(shelf.from <= def && def < shelf.to),
+        None => true,
+    }
+}
+
+/// The text itself defined the name.
+fn is_own(state: &State, name: &[u8]) -> bool
+    ensures { result ≡ is_own_by state.now name.now }
+{
+    match state.bound.meaning(name) {
+        Some(def) => is_outside(state.library, def),
+        None => false,
+    }
+}
+
+/// Defines a gate of a text: a name that the text itself defined before is refused.
+pub fn definition(
+    alloc: Global,
+    bytes: &[u8],
+    state: &mut State,
+    name: Span,
+    params: &[Span],
+    args: &[Span],
+    body: &[Stated],
+) -> Result<(), ReadFault>
+    requires sound { IsSound state.old }
+    requires name { SpanIn bytes.now name }
+    requires params { All (SpanIn bytes.now) params.now }
+    requires args { All (SpanIn bytes.now) args.now }
+    requires body { All (InnerIn bytes.now) body.now }
+    ensures became { Became result state.new (λ r. r ≡ defining bytes.now state.old name params.now args.now body.now) }
+    ensures sound { OnOk result (IsSound state.new) }
+{
+    if is_own(state, spelled(bytes, name)) {
+        return Err(fault(FaultName::Redeclared, name));
+    }
+    define(
+        alloc,
+        bytes,
+        &mut state.defs,
+        &mut state.bound,
+        name,
+        params,
+        args,
+        body,
+    )?;
+    Ok(())
 }
