@@ -3,6 +3,7 @@ pub mod Aiming
 pub mod Applied
 pub mod Expressions
 pub mod Fitting
+pub mod Leading
 pub mod Libraries
 pub mod Lookups
 pub mod Machine
@@ -12,7 +13,10 @@ pub mod Outcomes
 pub mod Placing
 pub mod Prims
 pub mod Registering
+pub mod Renumbering
 pub mod Sounding
+pub mod Soundness
+pub mod Stepping
 pub mod Steps
 pub mod Taking
 pub mod Texts

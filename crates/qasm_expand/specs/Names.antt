@@ -21,7 +21,8 @@ abbrev pub checked : {A E : Type 0} → Result A E → Result (Unit {0}) E
 checked (Ok a) = Ok tt
 checked (Err e) = Err e
 
--- with these applications so far, a statement of a body leads to those, or to its fault, whatever comes behind it
-abbrev pub Leads : List ℕ → List Def → List Bound → List (List ℕ) → List (List ℕ) → Stated → List Inner → Result (List Inner) ReadFault → Type 0
-Leads bytes defs bound params args s old (Ok new) = (ss : List Stated) → put_before old (body_of bytes defs bound params args (s ∷ ss)) ≡ put_before new (body_of bytes defs bound params args ss)
-Leads bytes defs bound params args s old (Err f) = (ss : List Stated) → body_of bytes defs bound params args (s ∷ ss) ≡ Err f
+-- a statement of a body leads from these applications so far to those, or to its fault, whatever comes behind it; want of memory aside
+abbrev pub Led : Result (Unit {0}) ReadFault → List ℕ → List Def → List Bound → List (List ℕ) → List (List ℕ) → Stated → List Inner → List Inner → Type 0
+Led (Ok u) bytes defs bound params args s old new = (ss : List Stated) → put_before old (body_of bytes defs bound params args (s ∷ ss)) ≡ put_before new (body_of bytes defs bound params args ss)
+Led (Err (Fault name at)) bytes defs bound params args s old new = (ss : List Stated) → body_of bytes defs bound params args (s ∷ ss) ≡ Err (Fault name at)
+Led (Err Memory) bytes defs bound params args s old new = Unit {0}

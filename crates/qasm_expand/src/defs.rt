@@ -1,8 +1,9 @@
 //! Gates as they are kept: their bodies with every name resolved.
 
-ghost use Rattle.std.specs.Prelude.{◌≡◌};
+ghost use Rattle.std.specs.Prelude.{◌≡◌, ◌++◌, ◌∷◌, [], OnOk};
 
 use qasm_angle::Expr;
+use std::alloc::AllocError;
 use std::marker::Model;
 
 /// What is applied.
@@ -154,6 +155,14 @@ impl Defs {
         ensures { result ≡ list.items }
     {
         Defs { list }
+    }
+
+    /// One gate more.
+    pub(crate) fn push(&mut self, def: Def) -> Result<(), AllocError>
+        ensures { OnOk result (self.new ≡ self.old ++ def ∷ []) }
+    {
+        self.list.push(def)?;
+        Ok(())
     }
 
     /// The gates in order. Takes no memory.
