@@ -3,6 +3,7 @@ pub mod Aiming
 pub mod Applied
 pub mod Expressions
 pub mod Fitting
+pub mod Keeping
 pub mod Leading
 pub mod Libraries
 pub mod Lookups

@@ -1,5 +1,5 @@
 -- Definitions one behind the other, and names that are kept or added.
-use Rattle.std.proofs.Common.{Vec, Global, map, is_none, ◌≡◌, ◌≢◌, ℕ, zero, suc, ◌+◌, ◌<◌, ◌≤◌, refl, ap, sym, ◌∙◌, subst, arith, Bool, true, false, ◌&&◌, nat_lt, Option, Some, None, List, [], ◌∷◌, ◌++◌, length, drop, get_or, bytes_eq, slice_get, Result, Ok, Err}
+use Rattle.std.proofs.Common.{is_some, ◌≡◌, ◌≢◌, ℕ, zero, suc, ◌+◌, ◌<◌, ◌≤◌, refl, ap, sym, ◌∙◌, subst, arith, Bool, true, false, ◌&&◌, nat_lt, Option, Some, None, List, [], ◌∷◌, ◌++◌, length, drop, get_or, bytes_eq, slice_get, Result, Ok, Err}
 use Rattle.std.proofs.lemmas.List.{drop_more, drop_all}
 use Rattle.std.proofs.lemmas.Option.{get_or_from_slice_get, slice_get_within}
 use Rattle.std.proofs.lemmas.Bool.Decides.{nat_tests}
@@ -79,30 +79,6 @@ defining_fault bytes g0 g new ss s i (Fault name at) w h e t =
       ∙ ap (λ z. and_then (all_defined bytes g (z ∷ [])) (λ x. all_defined bytes x (drop (i + 1) ss))) (sym e) ∙ ap (λ z. and_then z (λ x. all_defined bytes x (drop (i + 1) ss))) (sym t))
 defining_fault bytes g0 g new ss s i Memory w h e t = tt
 
--- ---- names
-pub added : (bs : List Bound) (name : List ℕ) (def : ℕ) → meaning bs name ≡ None → rebound bs name def ≡ bs ++ record { name = name; def = def } ∷ []
-unfolding meaning rebound
-added [] name def h = refl
-added (b ∷ bs) name def h = by_test (bytes_eq b.name name) h (added bs name def) where
-  by_test : (t : Bool) → (Rattle.std.specs.Prelude.cond t (Some b.def) (meaning bs name)) ≡ None → (meaning bs name ≡ None → rebound bs name def ≡ bs ++ record { name = name; def = def } ∷ [])
-      → Rattle.std.specs.Prelude.cond t (record { name = name; def = def } ∷ bs) (b ∷ rebound bs name def) ≡ b ∷ (bs ++ record { name = name; def = def } ∷ [])
-  by_test true h f = absurd (cc)
-  by_test false h f = ap (λ z. b ∷ z) (f h)
-
--- the names from the i-th on are still to be looked at
-abbrev pub Keeping : List Bound → List Bound → List Bound → ℕ → Type 0
-Keeping old bs now i = with_all old bs ≡ with_all now (drop i bs)
-
-pub keeping_more : (old bs now new : List Bound) (b : Bound) (i : ℕ) → Keeping old bs now i → slice_get bs i ≡ Some b → new ≡ kept_or (meaning now b.name) now b → Keeping old bs new (i + 1)
-unfolding with_all
-keeping_more old bs now new b i w h e =
-    let k : i < length bs = slice_get_within bs i b h in
-    w ∙ ap (with_all now) (drop_more bs i b k ∙ ap (λ z. z ∷ drop (i + 1) bs) (get_or_from_slice_get bs i b b h)) ∙ ap (λ z. with_all z (drop (i + 1) bs)) (sym e)
-
-pub keeping_end : (old bs now : List Bound) (i : ℕ) → Keeping old bs now i → length bs ≤ i → now ≡ with_all old bs
-unfolding with_all
-keeping_end old bs now i w h = sym (w ∙ ap (with_all now) (drop_all i bs h))
-
 -- what is kept or added is sound
 both : (a b : Bool) → (a && b) ≡ true → (a ≡ true) × (b ≡ true)
 both true b e = (refl, e)
@@ -177,31 +153,35 @@ library_sound st new g made ss s d k gates names n = subst IsSound (sym n) (reco
   few = s.few;
 })
 
--- ---- one name
-at_of : (es : List ((Vec ℕ Global) × ℕ)) (i : ℕ) (k : Vec ℕ Global) (d : ℕ) → slice_get es i ≡ Some (k, d) → slice_get (map bound_of es) i ≡ Some (record { name = k.items; def = d })
-at_of [] i k d e = absurd (cc)
-at_of (x ∷ es) zero k d e = let p : x ≡ (k, d) = some_same x (k, d) e in ap (λ (z : (Vec ℕ Global) × ℕ). Some (bound_of z)) p where
-  some_same : (a b : (Vec ℕ Global) × ℕ) → ◌≡◌ {A = Option ((Vec ℕ Global) × ℕ)} (Some a) (Some b) → a ≡ b
-  some_same a b e = cc
-at_of (x ∷ es) (suc i) k d e = at_of es i k d e
 
-none_of : (o : Option ℕ) → is_none o ≡ true → o ≡ None
-none_of None e = refl
-none_of (Some d) e = absurd (cc)
+-- whether the library is there
+shelf_of : (l : Option Shelf) → is_some l ≡ true → (s : Shelf) × (l ≡ Some s)
+shelf_of (Some s) e = (s, refl)
+shelf_of None e = absurd (cc)
 
-some_keeps : (o : Option ℕ) (old : List Bound) (b : Bound) → is_none o ≡ false → old ≡ kept_or o old b
-some_keeps None old b e = absurd (cc)
-some_keeps (Some d) old b e = refl
+no_shelf : (l : Option Shelf) → is_some l ≡ false → l ≡ None
+no_shelf (Some s) e = absurd (cc)
+no_shelf None e = refl
 
-abbrev pub KeptAt : List Bound → ℕ → List Bound → List Bound → Type 0
-KeptAt bs i old new = (x : Bound) × (slice_get bs i ≡ Some x) × (new ≡ kept_or (meaning old x.name) old x)
+pub none_of_shelf : (st : State) → is_some st.library ≡ false → st.library ≡ None
+none_of_shelf st e = no_shelf st.library e
 
-pub added_at : (es : List ((Vec ℕ Global) × ℕ)) (bs old new : List Bound) (i : ℕ) (k : Vec ℕ Global) (d : ℕ) (w : List ℕ) → bs ≡ map bound_of es → slice_get es i ≡ Some (k, d) → w ≡ k.items → is_none (meaning old w) ≡ true → new ≡ rebound old w d → KeptAt bs i old new
-added_at es bs old new i k d w e h q n r =
-    let m : meaning old w ≡ None = none_of (meaning old w) n in
-    let m2 : meaning old k.items ≡ None = ap (meaning old) (sym q) ∙ m in
-    (record { name = k.items; def = d }, ap (λ z. slice_get z i) e ∙ at_of es i k d h, r ∙ ap (λ z. rebound old z d) q ∙ added old k.items d m2 ∙ ap (λ z. kept_or z old (record { name = k.items; def = d })) (sym m2))
+pub included_again : (st : State) → is_some st.library ≡ true → Includes st (Ok st)
+included_again st e = let p = shelf_of st.library e in again p.1
 
-pub kept_at : (es : List ((Vec ℕ Global) × ℕ)) (bs old : List Bound) (i : ℕ) (k : Vec ℕ Global) (d : ℕ) (w : List ℕ) → bs ≡ map bound_of es → slice_get es i ≡ Some (k, d) → w ≡ k.items → is_none (meaning old w) ≡ false → KeptAt bs i old old
-kept_at es bs old i k d w e h q n =
-    (record { name = k.items; def = d }, ap (λ z. slice_get z i) e ∙ at_of es i k d h, some_keeps (meaning old k.items) old (record { name = k.items; def = d }) (subst (λ z. is_none (meaning old z) ≡ false) q n))
+pub none_sound : (n : ℕ) (bs : List Bound) → bs ≡ [] → bound_sound n bs ≡ true
+unfolding bound_sound
+none_sound n bs e = ap (bound_sound n) e
+
+pub text_of : (bytes : List ℕ) (ss xs : List Statement) → bytes ≡ library_text → xs ≡ ss → TextIs bytes (Ok ss) → TextIs library_text (Ok xs)
+text_of bytes ss xs e d h = subst (λ z. TextIs library_text (Ok z)) (sym d) (subst (λ z. TextIs z (Ok ss)) e h)
+
+pub fault_by : (bytes : List ℕ) (g new : Gates) (ss : List Statement) (f : ReadFault) → bytes ≡ library_text → Became {A = Unit {0}} (Err f) new (λ z. z ≡ all_defined bytes g ss) → Became {A = Unit {0}} (Err f) new (λ z. z ≡ all_defined library_text g ss)
+fault_by bytes g new ss f e h = subst (λ b. Became {A = Unit {0}} (Err f) new (λ z. z ≡ all_defined b g ss)) e h
+
+pub shelved : (st : State) (defs : List Def) (bound now : List Bound) (from to : ℕ) → now ≡ with_all st.bound bound → from ≡ length st.defs → to ≡ length defs
+    → record { registers = st.registers; defs = defs; bound = now; library = Some (record { from = from; to = to }); items = st.items } ≡ with_library st (record { defs = defs; bound = bound })
+shelved st defs bound now from to e f t =
+    ap (λ (z : List Bound). record { registers = st.registers; defs = defs; bound = z; library = Some (record { from = from; to = to }); items = st.items }) e
+    ∙ ap (λ z. record { registers = st.registers; defs = defs; bound = with_all st.bound bound; library = Some (record { from = z; to = to }); items = st.items }) f
+    ∙ ap (λ z. record { registers = st.registers; defs = defs; bound = with_all st.bound bound; library = Some (record { from = length st.defs; to = z }); items = st.items }) t

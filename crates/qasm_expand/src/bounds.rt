@@ -1,8 +1,9 @@
 //! Names of gates, and the gates that they mean.
 
-ghost use Rattle.std.specs.Prelude.{◌≡◌, ◌<◌, Some, length, slice_get, [], OnOk, OnErr};
-ghost use Rattle.qasm_expand.specs.Tables.{Bound, meaning, rebound};
+ghost use Rattle.std.specs.Prelude.{◌≡◌, [], OnOk, OnErr, length, slice_get};
+ghost use Rattle.qasm_expand.specs.Tables.{meaning, rebound};
 ghost use Rattle.qasm_expand.specs.Library.{kept_or, with_all};
+ghost use Rattle.qasm_expand.specs.Names.{kept_at};
 
 use indexmap::IndexMap;
 use std::alloc::{AllocError, Global};
@@ -42,38 +43,51 @@ impl Bounds {
     }
 
     /// Binds a name to a gate.
-    pub(crate) fn rebind(&mut self, alloc: Global, name: &[u8], def: u32) -> Result<(), AllocError>
+    pub(crate) fn rebind(
+        &mut self,
+        alloc: Global,
+        name: &[u8],
+        def: u32,
+    ) -> Result<(), AllocError>
         ensures bound { OnOk result (self.new ≡ rebound self.old name.now def) }
     {
         self.table.insert(name.to_vec(alloc)?, def)?;
         Ok(())
     }
 
-    // Binds the name at a place of another list, unless it is bound here.
-    fn keep_or_add_at(
-        &mut self,
-        alloc: Global,
-        other: &Bounds,
-        index: usize,
-    ) -> Result<(), AllocError>
-        requires { index < length other.now }
-        ensures { OnOk result ((b : Bound) × (slice_get other.now index ≡ Some b) × (self.new ≡ kept_or (meaning self.old b.name) self.old b)) }
+    /// How many names are bound.
+    fn len(&self) -> usize
+        ensures { result ≡ length self.now }
     {
-        let Some((name, def)) = other.table.get_index(index) else {
-            unreachable!()
-        };
-        if self.meaning(name).is_none() {
-            self.rebind(alloc, name, *def)?;
-        }
-        Ok(())
+        self.table.len()
     }
 
-    /// Binds all names of another list that are not bound here.
-    pub(crate) fn keep_or_add(&mut self, alloc: Global, other: &Bounds) -> Result<(), AllocError>
-        ensures { OnOk result (self.new ≡ with_all self.old other.now) }
+    /// Binds a name to a gate, unless it means one already.
+    fn keep(&mut self, alloc: Global, name: &[u8], def: u32) -> Result<(), AllocError>
+        ensures bound { OnOk result (self.new ≡ kept_or (meaning self.old name.now) self.old (record { name = name.now; def = def })) }
     {
-        for index in 0..other.table.len() {
-            self.keep_or_add_at(alloc, other, index)?;
+        match self.meaning(name) {
+            Some(_) => Ok(()),
+            None => self.rebind(alloc, name, def),
+        }
+    }
+
+    /// Binds the name at a place of others, unless it means a gate already.
+    fn keep_at(&mut self, alloc: Global, others: &Bounds, at: usize) -> Result<(), AllocError>
+        ensures bound { OnOk result (self.new ≡ kept_at (slice_get others.now at) self.old) }
+    {
+        match others.table.get_index(at) {
+            Some((name, def)) => self.keep(alloc, name.as_slice(), *def),
+            None => Ok(()),
+        }
+    }
+
+    /// Binds the names of others, in their order, that mean no gate yet.
+    pub(crate) fn keep_all(&mut self, alloc: Global, others: &Bounds) -> Result<(), AllocError>
+        ensures bound { OnOk result (self.new ≡ with_all self.old others.now) }
+    {
+        for at in 0..others.len() {
+            self.keep_at(alloc, others, at)?;
         }
         Ok(())
     }

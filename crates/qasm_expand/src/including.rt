@@ -132,18 +132,19 @@ pub fn include(alloc: Global, state: &mut State) -> Result<(), ReadFault>
     if state.library.is_some() {
         return Ok(());
     }
-    let program = match text_program(alloc, text()) {
+    let bytes = text();
+    let program = match text_program(alloc, bytes) {
         Ok(program) => program,
         Err(fault) => return Err(fault),
     };
     let from = count(state.defs.as_slice().len())?;
     let mut names = Bounds::new(alloc);
-    match define_all(alloc, text(), &mut state.defs, &mut names, program.statements()) {
+    match define_all(alloc, bytes, &mut state.defs, &mut names, program.statements()) {
         Ok(()) => {}
         Err(fault) => return Err(fault),
     }
     let to = count(state.defs.as_slice().len())?;
-    state.bound.keep_or_add(alloc, &names)?;
+    state.bound.keep_all(alloc, &names)?;
     state.library = Some(Shelf { from, to });
     Ok(())
 }

@@ -1,6 +1,6 @@
 //! The library, its including, and definitions.
 
-ghost use Rattle.std.specs.Prelude.{◌≡◌};
+ghost use Rattle.std.specs.Prelude.{◌≡◌, ◌≤◌, length};
 ghost use Rattle.qasm_expand.specs.Library.{library_text};
 
 const LIBRARY: &[u8] = b"OPENQASM 2.0;
@@ -43,7 +43,8 @@ gate sx a { sdg a; h a; sdg a; }
 
 /// The text of the library.
 pub fn text() -> &'static [u8]
-    ensures { result.now ≡ library_text }
+    ensures same { result.now ≡ library_text }
+    ensures small { length result.now ≤ 16777216 }
 {
     LIBRARY
 }

@@ -15,7 +15,7 @@ returns-in-Gate-clause-taken c = take_gate c.args.bytes.now c.args.state.now c.d
     c.in-Gate.is c.items.ensures c.items-in-Gate.ensures c.items-in-Gate-2.ensures c.definition.ensures.defined
 
 pub returns-in-Apply-clause-taken : goal.returns-in-Apply-clause-taken
-returns-in-Apply-clause-taken c = take_apply c.args.bytes.now c.args.state.now c.apply.new.state c.args.statement.now c.apply.result c.in-Apply.call c.in-Apply.is c.apply.ensures.applied
+returns-in-Apply-clause-taken c = take_apply c.args.bytes.now c.args.state.now c.apply.new.state c.args.statement.now c.apply.result c.in-Apply.call c.in-Apply.is c.apply.ensures.applies
 
 pub returns-in-Barrier-clause-taken : goal.returns-in-Barrier-clause-taken
 returns-in-Barrier-clause-taken c = take_barrier c.args.bytes.now c.args.state.now c.args.state.now c.args.statement.now c.barrier.result c.in-Barrier.args c.items-in-Barrier.result.now c.in-Barrier.is c.items-in-Barrier.ensures c.barrier.ensures
