@@ -1,0 +1,67 @@
+-- One statement behind the other.
+use Rattle.std.proofs.Common.{◌≡◌, ℕ, ◌+◌, ◌<◌, ◌≤◌, refl, ap, sym, ◌∙◌, subst, arith, true, false, List, [], ◌∷◌, length, drop, get_or, Result, Ok, Err}
+use Rattle.std.proofs.lemmas.List.{drop_more, drop_all}
+use Rattle.ps_prim.specs.declared.prims.Primitive.{Primitive as Prim}
+use Rattle.qasm_parse.specs.declared.program.Span.{Span}
+use Rattle.qasm_parse.specs.declared.program.Arg.{Arg}
+use Rattle.qasm_parse.specs.declared.program.Call.{Call}
+use Rattle.qasm_parse.specs.declared.program.Inner.{Inner as Stated}
+use Rattle.qasm_parse.specs.declared.program.Statement.{Statement}
+use Rattle.qasm_parse.specs.declared.program.Statement.TheVariants as statement
+use Rattle.qasm_expand.specs.declared.state.State.{State}
+use Rattle.qasm_expand.specs.declared.fault.FaultName.{FaultName}
+use Rattle.qasm_expand.specs.declared.fault.ReadFault.{ReadFault}
+use Rattle.qasm_expand.specs.declared.fault.ReadFault.TheVariants.{Fault, Memory}
+use Rattle.qasm_expand.specs.Library.{Includes, defining}
+use Rattle.qasm_expand.specs.States.{Became}
+use Rattle.qasm_expand.specs.Targets.{Applies, targets_of}
+use Rattle.qasm_expand.specs.Statements.{declared_as, behind, past, Takes, include, quantum, classical, gate, apply, barrier, Expands, ended, taken, faulty}
+
+became : {A B : Type 0} (r : Result A ReadFault) (new : B) (P Q : Result B ReadFault → Type 0) → ((x : Result B ReadFault) → P x → Q x) → Became r new P → Became r new Q
+became (Ok u) new P Q f h = f _ h
+became (Err (Fault name at)) new P Q f h = f _ h
+became (Err Memory) new P Q f h = tt
+
+module _ {A : Type 0} (bytes : List ℕ) (st new : State) (s : Statement) (r : Result A ReadFault) where
+  as_taken : (P : Result State ReadFault → Type 0) (t : Statement) → s ≡ t → ((x : Result State ReadFault) → P x → Takes bytes st t x) → Became r new P → Became r new (Takes bytes st s)
+  as_taken P t e f h = subst (λ z. Became r new (Takes bytes st z)) (sym e) (became r new P (Takes bytes st t) f h)
+
+  pub take_include : (p : Span) → s ≡ statement.Include p → Became r new (Includes st) → Became r new (Takes bytes st s)
+  take_include p e h = as_taken (Includes st) (statement.Include p) e (λ x i. include i) h
+
+  pub take_quantum : (name size : Span) → s ≡ statement.Qreg name size → Became r new (λ x. x ≡ declared_as true bytes st name size) → Became r new (Takes bytes st s)
+  take_quantum name size e h = as_taken (λ x. x ≡ declared_as true bytes st name size) (statement.Qreg name size) e (λ x i. subst (Takes bytes st (statement.Qreg name size)) (sym i) quantum) h
+
+  pub take_classical : (name size : Span) → s ≡ statement.Creg name size → Became r new (λ x. x ≡ declared_as false bytes st name size) → Became r new (Takes bytes st s)
+  take_classical name size e h = as_taken (λ x. x ≡ declared_as false bytes st name size) (statement.Creg name size) e (λ x i. subst (Takes bytes st (statement.Creg name size)) (sym i) classical) h
+
+  pub take_gate : (name : Span) (params args ps as' : List Span) (body ss : List Stated) → s ≡ statement.Gate name params args body → ps ≡ params → as' ≡ args → ss ≡ body
+      → Became r new (λ x. x ≡ defining bytes st name ps as' ss) → Became r new (Takes bytes st s)
+  take_gate name params args ps as' body ss e d c b h =
+      as_taken (λ x. x ≡ defining bytes st name ps as' ss) (statement.Gate name params args body) e
+      (λ x i. subst (Takes bytes st (statement.Gate name params args body)) (sym (i ∙ ap (λ z. defining bytes st name z as' ss) d ∙ ap (λ z. defining bytes st name params z ss) c ∙ ap (λ z. defining bytes st name params args z) b)) gate) h
+
+  pub take_apply : (c : Call) → s ≡ statement.Apply c
+      → Became r new (λ x. (o : Result (List (List Prim)) ReadFault) × Applies bytes st.registers st.defs st.bound (length st.items) c o × (x ≡ behind st o)) → Became r new (Takes bytes st s)
+  take_apply c e h = as_taken (λ x. (o : Result (List (List Prim)) ReadFault) × Applies bytes st.registers st.defs st.bound (length st.items) c o × (x ≡ behind st o)) (statement.Apply c) e
+      (λ x i. subst (Takes bytes st (statement.Apply c)) (sym i.2) (apply i.1)) h
+
+  pub take_barrier : (args given : List Arg) → s ≡ statement.Barrier args → given ≡ args → Became r new (λ x. x ≡ past st (targets_of bytes st.registers given)) → Became r new (Takes bytes st s)
+  take_barrier args given e d h = as_taken (λ x. x ≡ past st (targets_of bytes st.registers given)) (statement.Barrier args) e
+      (λ x i. subst (Takes bytes st (statement.Barrier args)) (sym (i ∙ ap (λ z. past st (targets_of bytes st.registers z)) d)) barrier) h
+
+-- whatever the statements from the i-th on make of this is what all make of the first
+abbrev pub Walked : List ℕ → State → List Statement → State → ℕ → Type 0
+Walked bytes st0 ss st i = (r : Result State ReadFault) → Expands bytes st (drop i ss) r → Expands bytes st0 ss r
+
+pub walked_more : (bytes : List ℕ) (st0 st new : State) (ss : List Statement) (s : Statement) (i : ℕ) → Walked bytes st0 ss st i → i < length ss → s ≡ get_or ss i s
+    → Takes bytes st s (Ok new) → Walked bytes st0 ss new (i + 1)
+walked_more bytes st0 st new ss s i w h e t = λ r x. w r (subst (λ z. Expands bytes st z r) (sym (drop_more ss i s h)) (taken (subst (λ z. Takes bytes st z (Ok new)) e t) x))
+
+pub walked_end : (bytes : List ℕ) (st0 st : State) (ss : List Statement) (i : ℕ) → Walked bytes st0 ss st i → length ss ≤ i → Expands bytes st0 ss (Ok st)
+walked_end bytes st0 st ss i w h = w (Ok st) (subst (λ z. Expands bytes st z (Ok st)) (sym (drop_all i ss h)) ended)
+
+pub walked_fault : (bytes : List ℕ) (st0 st new : State) (ss : List Statement) (s : Statement) (i : ℕ) (f : ReadFault) → Walked bytes st0 ss st i → i < length ss → s ≡ get_or ss i s
+    → Became {A = Unit {0}} (Err f) new (Takes bytes st s) → Became {A = Unit {0}} (Err f) new (Expands bytes st0 ss)
+walked_fault bytes st0 st new ss s i (Fault name at) w h e t = w _ (subst (λ z. Expands bytes st z (Err (Fault name at))) (sym (drop_more ss i s h)) (faulty (subst (λ z. Takes bytes st z (Err (Fault name at))) e t)))
+walked_fault bytes st0 st new ss s i Memory w h e t = tt

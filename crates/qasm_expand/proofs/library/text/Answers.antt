@@ -1,0 +1,7 @@
+use Rattle.std.proofs.Common.{refl, lit≤}
+use Rattle.qasm_expand.specs.Library.{library_text}
+use Rattle.qasm_expand.proofs.library.text.Goals as goal
+
+pub returns-clause-same : goal.returns-clause-same
+unfolding library_text
+returns-clause-same c = refl

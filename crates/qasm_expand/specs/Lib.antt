@@ -1,0 +1,14 @@
+pub mod Tables
+pub mod Maps
+pub mod Checks
+pub mod Gates
+pub mod Names
+pub mod Library
+pub mod States
+pub mod Bodies
+pub mod Frames
+pub mod Targets
+pub mod Aims
+pub mod Statements
+pub mod Circuits
+pub mod Reading

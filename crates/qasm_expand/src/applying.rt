@@ -1,0 +1,157 @@
+//! Applications and barriers.
+
+ghost use Rattle.std.specs.Prelude.{◌≡◌, ◌+◌, ◌≤◌, ℕ, ◌<◌, ◌++◌, true, length, List, All, OnOk, IfOk, Result};
+ghost use Rattle.ps_prim.specs.declared.prims.Primitive.{Primitive as Prim};
+ghost use Rattle.ps_prim.specs.Maps.{AllWithin, IsWithin};
+ghost use Rattle.qasm_parse.specs.Places.{ArgIn, CallIn};
+ghost use Rattle.qasm_expand.specs.declared.fault.ReadFault.{ReadFault};
+ghost use Rattle.qasm_expand.specs.Tables.{all_different};
+ghost use Rattle.qasm_expand.specs.Bodies.{on_qubits, all_on};
+ghost use Rattle.qasm_expand.specs.Checks.{of_angle as angle_fault};
+ghost use Rattle.qasm_expand.specs.States.{IsSound, Became};
+ghost use Rattle.qasm_expand.specs.Targets.{targets_of, index_count as indices, qubits_at, items_from, expression_at as offset_of, broken_at as fault_of_broken, Applies};
+ghost use Rattle.qasm_expand.specs.Statements.{behind, past};
+ghost use Rattle.qasm_expand.specs.Aims.{Within};
+
+use crate::bodies::comes;
+use crate::broken::Broken;
+use crate::fault::{FaultName, ReadFault};
+use crate::item_list::Items;
+use crate::state::State;
+use crate::target::Target;
+use crate::targets::{aim, index_count, qubit, targets};
+use ps_prim::{Item, Prim};
+use qasm_angle::AngleFault;
+use qasm_parse::{Arg, Call, Formula};
+use std::alloc::{AllocError, Global};
+
+/// A prim on the qubits of targets at an index.
+fn placed(targets: &[Target], index: u32, prim: Prim) -> Prim
+    requires targets { All (Within 64 index) targets.now }
+    requires prim { IsWithin (length targets.now) prim }
+    ensures { result ≡ on_qubits (qubits_at targets.now index) prim }
+{
+    match prim {
+        Prim::U {
+            theta,
+            phi,
+            lambda,
+            q,
+        } => Prim::U {
+            theta,
+            phi,
+            lambda,
+            q: qubit(targets[q as usize], index),
+        },
+        Prim::Cx { c, t } => Prim::Cx {
+            c: qubit(targets[c as usize], index),
+            t: qubit(targets[t as usize], index),
+        },
+    }
+}
+
+/// Prims on the qubits of targets at an index.
+fn all_placed(
+    alloc: Global,
+    targets: &[Target],
+    index: u32,
+    prims: &[Prim],
+) -> Result<Vec<Prim>, AllocError>
+    requires targets { All (Within 64 index) targets.now }
+    requires prims { AllWithin (length targets.now) prims.now }
+    ensures { IfOk result (λ v. v.items ≡ all_on (qubits_at targets.now index) prims.now) }
+{
+    let mut out = Vec::with_capacity(alloc, prims.len())?;
+    for prim in prims {
+        out.push(placed(targets, index, *prim))?;
+    }
+    Ok(out)
+}
+
+/// An item more for each index below a count.
+fn add(
+    alloc: Global,
+    items: &mut Items,
+    targets: &[Target],
+    count: u32,
+    prims: &[Prim],
+) -> Result<(), AllocError>
+    requires few { length prims.now ≤ 4096 }
+    requires prims { AllWithin (length targets.now) prims.now }
+    requires targets { (i : ℕ) → i < count → All (Within 64 i) targets.now }
+    requires different { (i : ℕ) → i < count → all_different (qubits_at targets.now i) ≡ true }
+    ensures { OnOk result (items.new ≡ items.old ++ items_from prims.now targets.now 0 count) }
+{
+    for index in 0..count {
+        items.push(Item::new(all_placed(alloc, targets, index, prims)?))?;
+    }
+    Ok(())
+}
+
+/// The first byte of an expression, and 0 past the last.
+fn expression_at(formulas: &[Formula], at: usize) -> u32
+    ensures { result ≡ offset_of formulas.now at }
+{
+    match formulas.get(at) {
+        Some(formula) => formula.from,
+        None => 0,
+    }
+}
+
+/// The fault of an expression, at a byte.
+pub fn of_angle(fault: AngleFault, offset: u32) -> ReadFault
+    ensures { result ≡ angle_fault fault offset }
+{
+    let name = match fault {
+        AngleFault::NotDyadic => FaultName::NotDyadic,
+        AngleFault::AngleRange => FaultName::AngleRange,
+        AngleFault::NoParameter => FaultName::NoParameter,
+        AngleFault::Function => FaultName::Function,
+        AngleFault::ByZero => FaultName::ByZero,
+        AngleFault::Memory => return ReadFault::Memory,
+    };
+    ReadFault::Fault { name, offset }
+}
+
+/// The fault of an application: of an own expression at its first byte, of one in a body at the gate.
+fn broken_at(call: &Call, broken: Broken) -> ReadFault
+    ensures { result ≡ fault_of_broken call.now broken }
+{
+    match broken {
+        Broken::Own(stop) => of_angle(stop.fault, expression_at(call.params.items(), stop.at)),
+        Broken::Inside(fault) => of_angle(fault, call.at.from),
+    }
+}
+
+/// Applies a gate: behind the items there is one more for each index.
+pub fn apply(alloc: Global, bytes: &[u8], state: &mut State, call: &Call) -> Result<(), ReadFault>
+    requires sound { IsSound state.old }
+    requires inside { CallIn bytes.now call.now }
+    ensures applies { Became result state.new (λ r. (o : Result (List (List Prim)) ReadFault) × Applies bytes.now state.old.registers state.old.defs state.old.bound (length state.old.items) call.now o × (r ≡ behind state.old o)) }
+    ensures sound { OnOk result (IsSound state.new) }
+{
+    let aimed = aim(alloc, bytes, state, call)?;
+    let prims = match comes(alloc, &state.defs, aimed.gate, call.params.items()) {
+        Ok(prims) => prims,
+        Err(broken) => return Err(broken_at(call, broken)),
+    };
+    let targets = aimed.targets.as_slice();
+    add(
+        alloc,
+        &mut state.items,
+        targets,
+        index_count(targets),
+        &prims,
+    )?;
+    Ok(())
+}
+
+/// Passes over a barrier, whose arguments have to be there.
+pub fn barrier(alloc: Global, bytes: &[u8], state: &State, args: &[Arg]) -> Result<(), ReadFault>
+    requires sound { IsSound state.now }
+    requires inside { All (ArgIn bytes.now) args.now }
+    ensures { Became result state.now (λ r. r ≡ past state.now (targets_of bytes.now state.now.registers args.now)) }
+{
+    targets(alloc, bytes, &state.registers, args)?;
+    Ok(())
+}

@@ -1,0 +1,70 @@
+//! Statements, one after the other.
+
+ghost use Rattle.std.specs.Prelude.{◌≡◌, OnOk, All, List};
+ghost use Rattle.qasm_parse.specs.Places.{StatementIn};
+ghost use Rattle.qasm_expand.specs.States.{IsSound, Became};
+ghost use Rattle.qasm_expand.specs.Statements.{Takes, Expands};
+
+use crate::applying::{apply, barrier};
+use crate::declaring::declare;
+use crate::fault::ReadFault;
+use crate::including::{definition, include};
+use crate::state::State;
+use qasm_parse::Statement;
+use std::alloc::Global;
+
+/// Takes a statement.
+fn take(
+    alloc: Global,
+    bytes: &[u8],
+    state: &mut State,
+    statement: &Statement,
+) -> Result<(), ReadFault>
+    requires sound { IsSound state.old }
+    requires inside { StatementIn bytes.now statement.now }
+    ensures taken { Became result state.new (Takes bytes.now state.old statement.now) }
+    ensures sound { OnOk result (IsSound state.new) }
+{
+    match statement {
+        Statement::Include(_) => include(alloc, state),
+        Statement::Qreg { name, size } => declare(alloc, bytes, state, true, *name, *size),
+        Statement::Creg { name, size } => declare(alloc, bytes, state, false, *name, *size),
+        Statement::Gate {
+            name,
+            params,
+            args,
+            body,
+        } => definition(
+            alloc,
+            bytes,
+            state,
+            *name,
+            params.items(),
+            args.items(),
+            body.items(),
+        ),
+        Statement::Apply(call) => apply(alloc, bytes, state, call),
+        Statement::Barrier(args) => barrier(alloc, bytes, state, args.items()),
+    }
+}
+
+/// Takes statements in order, up to the first fault.
+pub fn expand(
+    alloc: Global,
+    bytes: &[u8],
+    state: &mut State,
+    statements: &[Statement],
+) -> Result<(), ReadFault>
+    requires sound { IsSound state.old }
+    requires inside { All (StatementIn bytes.now) statements.now }
+    ensures expanded { Became result state.new (Expands bytes.now state.old statements.now) }
+    ensures sound { OnOk result (IsSound state.new) }
+{
+    for statement in statements {
+        match take(alloc, bytes, state, statement) {
+            Ok(()) => {}
+            Err(fault) => return Err(fault),
+        }
+    }
+    Ok(())
+}
