@@ -103,7 +103,7 @@ pub comparable_floor : (S1 S2 S : PathSum) → Comparable S1 S2 → IsOverlapOf 
 comparable_floor S1 S2 S c o = omega (arith, ints, o.overlaps.m_is, o.overlaps.k_is, c.first_few, c.second_few, c.first.scale.least, c.second.scale.least)
 
 -- ---- records
-items_few : (L : List (List Prim)) → AllItems L → length (run_of L) ≤ 4096 * length L
+pub items_few : (L : List (List Prim)) → AllItems L → length (run_of L) ≤ 4096 * length L
 unfolding run_of
 items_few [] h = omega arith
 items_few (i ∷ L) h = omega (arith, h.0.0, items_few L h.1, length_both i (run_of L))

@@ -5,3 +5,7 @@ pub mod Recording
 pub mod Pairs
 pub mod Finding
 pub mod TestRuns
+pub mod Holdings
+pub mod Ordered
+pub mod Settling
+pub mod Derived

@@ -5,3 +5,4 @@ pub mod Fillings
 pub mod Comparing
 pub mod Places
 pub mod Founds
+pub mod Deriving

@@ -3,6 +3,7 @@
 
 mod children;
 pub mod comparing;
+pub mod derivations;
 mod evidences;
 pub mod filled;
 pub mod filling;
@@ -12,6 +13,7 @@ mod reduce;
 mod takings;
 
 pub use comparing::{compare, same_gates};
+pub use derivations::derive;
 pub use filled::Filled;
 pub use filling::fill;
 

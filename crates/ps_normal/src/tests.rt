@@ -1,12 +1,12 @@
-ghost use Rattle.std.specs.Prelude.{◌≡◌, ◌≤◌, [], ◌∷◌, vec_len, IfOk};
+ghost use Rattle.std.specs.Prelude.{◌≡◌, ◌≤◌, true, length, [], ◌∷◌, vec_len, IfOk};
 ghost use Rattle.ps_prim.specs.declared.prims.Primitive.TheVariants.{U};
 ghost use Rattle.ps_prim.specs.Maps.{AllWithin};
-ghost use Rattle.ps_normal.specs.Fillings.{CanRun};
+ghost use Rattle.ps_normal.specs.Fillings.{CanRun, HasSum};
 
 use super::*;
 use ps_io::{NeverStop, Stop};
 use ps_prim::{Item, Prim};
-use ps_reach::{Body, Items, Record, Task, Verdict, Work};
+use ps_reach::{Body, Items, Judged, Record, Task, Verdict, Work};
 use ps_ring::Angle;
 use std::alloc::{AllocError, Global};
 use std::sync::Arc;
@@ -167,6 +167,101 @@ fn segments_are_compared(rt: HostRuntime) -> Result<(), Fail> {
             assert!(rt; sum.text(alloc)?.as_slice() == b"k=2 m=1 P=7/8*y0 f=-".as_slice())
         }
         _ => assert!(rt; false),
+    }
+    Ok(())
+}
+
+// Whether they are one map, and the derivation has this text.
+fn derives_as(alloc: Global, judged: &Judged, text: &[u8]) -> Result<bool, AllocError> {
+    match &judged.verdict {
+        Verdict::Yes => {
+            let derivation = derive(alloc, judged)?;
+            Ok(ps_steps::text(alloc, &derivation)?.as_slice() == text)
+        }
+        _ => Ok(false),
+    }
+}
+
+// The record of the items on one qubit, where it has a sum.
+fn filled(alloc: Global, items: Arc<Items>) -> Result<Option<Arc<Record>>, AllocError>
+    requires { CanRun 1 items.value }
+{
+    let task = Task {
+        seat: 0,
+        claim: 0,
+        n: 1,
+        work: Work::Items(items),
+    };
+    match fill(alloc, &task, &mut NeverStop)? {
+        Filled::Done(record) => Ok(Some(Arc::new(alloc, record)?)),
+        Filled::Stopped => Ok(None),
+    }
+}
+
+// Whether the record has a sum, on one qubit, and at most two items.
+fn can_join(record: &Record) -> bool
+    ensures { result ≡ true → (record.now.n ≡ 1) × ((length record.now.items.value ≤ 2) × HasSum record.now.body) }
+{
+    match &record.body {
+        Body::Sum(_) => record.n == 1 && record.items.as_slice().len() <= 2,
+        Body::Passed(_) => false,
+    }
+}
+
+// The record of two segments one after the other.
+fn joined(
+    alloc: Global,
+    first: Arc<Record>,
+    second: Arc<Record>,
+) -> Result<Option<Arc<Record>>, AllocError> {
+    if !can_join(&first) || !can_join(&second) {
+        return Ok(None);
+    }
+    let task = Task {
+        seat: 0,
+        claim: 0,
+        n: 1,
+        work: Work::Children(first, second),
+    };
+    match fill(alloc, &task, &mut NeverStop)? {
+        Filled::Done(record) => Ok(Some(Arc::new(alloc, record)?)),
+        Filled::Stopped => Ok(None),
+    }
+}
+
+// Twice the two Hadamards, as two segments, and no gate.
+fn twice_and_nothing(alloc: Global) -> Result<Option<Judged>, AllocError> {
+    let Some(half) = filled(alloc, hadamards(alloc)?)? else {
+        return Ok(None);
+    };
+    let Some(none) = filled(alloc, nothing(alloc)?)? else {
+        return Ok(None);
+    };
+    let Some(whole) = joined(alloc, Arc::try_clone(&half)?, half)? else {
+        return Ok(None);
+    };
+    if whole.n != none.n {
+        return Ok(None);
+    }
+    Ok(Some(compare(alloc, &whole, &none)?))
+}
+
+const ONE_RUN: &[u8] =
+    b"pathsum 1\nleaf a 0\nomega 0\nleaf a 1\nomega 0\njoin\nhh 0 1\nid b\noverlap\nelim 0\nend\n";
+
+const TWO_RUNS: &[u8] =
+    b"pathsum 1\nleaf a 0\nomega 0\nleaf a 1\nomega 0\njoin\nhh 0 1\nleaf a 2\nomega 0\nleaf a 3\nomega 0\njoin\nhh 0 1\njoin\nid b\noverlap\nelim 0\nend\n";
+
+// Two Hadamards are nothing, in eleven lines; four of them, from two records, are so too.
+#[test]
+fn yes_is_derived(rt: HostRuntime) -> Result<(), Fail> {
+    let alloc = rt.alloc();
+    let none = nothing(alloc)?;
+    let one_run = same_gates(alloc, &hadamards(alloc)?, &none, 1)?;
+    assert!(rt; derives_as(alloc, &one_run, ONE_RUN)?);
+    match twice_and_nothing(alloc)? {
+        Some(two_runs) => assert!(rt; derives_as(alloc, &two_runs, TWO_RUNS)?),
+        None => assert!(rt; false),
     }
     Ok(())
 }

@@ -47,7 +47,7 @@ pub data Does (n : ℕ) (A B : List Prim) : Line → List Entry → List Entry �
   ident : {es : List Entry} {b : Bool} {S : PathSum} → IsIdentityOf n S → Does n A B (Id b) es (sided b none S ∷ es)
   join : {es : List Entry} {b : Bool} {r1 r2 r : Run} {S1 S2 S : PathSum} → AllSided es → Meets r1 r2 r → JoinFits S1 S2 → IsJoinOf S1 S2 S
       → Does n A B Join (sided b r2 S2 ∷ sided b r1 S1 ∷ es) (sided b r S ∷ es)
-  rewrite : {es : List Entry} {e : Entry} {s : Step} {T : PathSum} → Applies (sum_of e) s → StepFits (sum_of e) s → Applied (sum_of e) s T
+  rewrite : {es : List Entry} {e : Entry} {s : Step} (T : PathSum) → Applies (sum_of e) s → StepFits (sum_of e) s → Applied (sum_of e) s T
       → Does n A B (Rewrite s) (e ∷ es) (with_sum e T ∷ es)
   overlap : {r1 r2 : Run} {S1 S2 S : PathSum} → r1 ≡ whole_run A → r2 ≡ whole_run B → OverlapFits S1 S2 → IsOverlapOf S1 S2 S
       → Does n A B Overlap (sided true r2 S2 ∷ sided false r1 S1 ∷ []) (closed S ∷ [])
