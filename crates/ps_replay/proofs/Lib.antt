@@ -1,0 +1,5 @@
+pub mod Once
+pub mod Runs
+pub mod Sound
+pub mod Leading
+pub mod Stacking

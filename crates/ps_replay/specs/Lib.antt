@@ -1,0 +1,4 @@
+pub mod Failing
+pub mod Replaying
+pub mod Places
+pub mod Stacks
