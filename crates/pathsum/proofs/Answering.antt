@@ -211,6 +211,9 @@ same_at e = cc
 fault_given : (s : ℕ) {n m : FaultName} {i k : ℕ} → err_of n i ≡ err_of m k → refuses (Text n) (s + i) ≡ refuses (Text m) (s + k)
 fault_given s {n} {m} {i} {k} e = ap (λ (x : FaultName). refuses (Text x) (s + i)) (same_name e) ∙ ap (λ (x : ℕ). refuses (Text m) (s + x)) (same_at e)
 
+first_given : {n m : FaultName} {i k : ℕ} → err_of n i ≡ err_of m k → refuses (Text n) i ≡ refuses (Text m) k
+first_given {n} {m} {i} {k} e = ap (λ (x : FaultName). refuses (Text x) i) (same_name e) ∙ ap (λ (x : ℕ). refuses (Text m) x) (same_at e)
+
 both_given : {c d c' d' : CircuitOf} → c ≡ c' → d ≡ d' → both c.qubits (run_of c.items) (run_of d.items) ≡ both c'.qubits (run_of c'.items) (run_of d'.items)
 both_given {c} {d} {c'} {d'} e f = ap (λ (x : CircuitOf). both x.qubits (run_of x.items) (run_of d.items)) e ∙ ap (λ (x : CircuitOf). both c'.qubits (run_of c'.items) (run_of x.items)) f
 
@@ -221,7 +224,7 @@ read_one : {text : List ℕ} {r s : Result CircuitOf ReadFault} → IsReadAs tex
 read_one {r = r} a b = b.only r a.reads
 
 texts_one : (a b : List ℕ) (s : ℕ) (g h : Given) → TextsAre a b s g → TextsAre a b s h → g ≡ h
-texts_one a b s g h (first_fault x) (first_fault y) = fault_given 0 (read_one x y)
+texts_one a b s g h (first_fault x) (first_fault y) = first_given (read_one x y)
 texts_one a b s g h (first_fault x) (second_fault y z) = absurd (ok_not_err (read_one y x))
 texts_one a b s g h (first_fault x) (widths y z k) = absurd (ok_not_err (read_one y x))
 texts_one a b s g h (first_fault x) (circuits y z k) = absurd (ok_not_err (read_one y x))
@@ -290,7 +293,7 @@ judges_one c bytes x y (judged a' b' d' s' n A B q' t' v) (refused a b d s i {wh
 judges_one c bytes x y (judged a b d s n A B q t w) (judged a' b' d' s' n' A' B' q' t' w') =
     let e = given_one c bytes a b d a' b' d' s s' (both n A B) (both n' A' B') q q' t t' in
     let o = parts_once c bytes a b d s a' b' d' s' q q' in
-    works_one c n' A' B' d' x y (works_moved c n n' A A' B B' d d' x (both_n e) (both_first e) (both_second e) o.document w) w'
+    works_one c n' A' B' d' x y (works_moved c n n' A B A' B' d d' x (both_n e) (both_first e) (both_second e) o.document w) w'
 
 -- ---- words
 same_not_prove : codes "same" ∷ [] ≡ codes "prove" ∷ [] → ⊥

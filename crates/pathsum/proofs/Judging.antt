@@ -1,5 +1,6 @@
 -- From what is found of two texts to the answer of a call.
-use Rattle.std.proofs.Common.{◌≡◌, ◌≢◌, ℕ, refl, ap, sym, ◌∙◌, ◌+◌, ◌-◌, ◌<◌, ◌≤◌, Option, Some, None, List, [], ◌∷◌, ◌++◌, length, subst, ◌⊎◌, inl, inr, append-nil, get_or, map, arith, Bool, true, Result, Ok, Err}
+use Rattle.std.proofs.Common.{◌≡◌, ◌≢◌, ℕ, zero, suc, min, refl, ap, sym, ◌∙◌, ◌+◌, ◌-◌, ◌<◌, ◌≤◌, Option, Some, None, List, [], ◌∷◌, ◌++◌, length, subst, ◌⊎◌, inl, inr, append-nil, get_or, map, arith, Bool, true, Result, Ok, Err}
+use Rattle.std.proofs.Math.Nat.{min-eq_left, min-eq_right, min-le_left}
 use Rattle.std.specs.Str.{bytes_eq}
 use Rattle.std.proofs.lemmas.Slice.Eq.{bytes_eq-Decides}
 use Rattle.std.specs.Io.KnownBytes.{prepend_known, IsAtEnd}
@@ -9,19 +10,25 @@ use Rattle.ps_reach.specs.Findings.{Finding}
 use Rattle.ps_reach.specs.Runs.{run_of}
 use Rattle.ps_replay.specs.declared.replayed.Replayed.{Replayed}
 use Rattle.qasm_lex.specs.Places.{IsPlace}
+use Rattle.qasm_expand.specs.declared.fault.FaultName.{FaultName}
 use Rattle.qasm_expand.specs.declared.fault.ReadFault.{ReadFault}
+use Rattle.qasm_expand.specs.declared.fault.ReadFault.TheVariants.{Fault}
 use Rattle.qasm_expand.specs.Circuits.{CircuitOf, ReadsText}
+use Rattle.qasm_expand.specs.Reading.{CircuitTold}
+use Rattle.pathsum.specs.declared.pair.Pair.{Pair}
+use Rattle.pathsum.specs.declared.pair.TwoTexts.{TwoTexts}
+use Rattle.pathsum.specs.declared.pair.TwoTexts.TheVariants.{Both, Refuses}
 use Rattle.pathsum.specs.declared.answer.Answer.{Answer}
 use Rattle.pathsum.specs.declared.answer.Answer.TheVariants.{Yes, Proof, No, Stuck, Passed, Accepted, Rejected, Left, Refused, Words, Read, TooLong, Memory}
 use Rattle.pathsum.specs.declared.commands.Command.{Command}
 use Rattle.pathsum.specs.declared.commands.Command.TheVariants as command
 use Rattle.pathsum.specs.declared.refusals.Refusal.{Refusal}
-use Rattle.pathsum.specs.declared.refusals.Refusal.TheVariants.{Separator}
+use Rattle.pathsum.specs.declared.refusals.Refusal.TheVariants.{Separator, Text, Widths}
 use Rattle.pathsum.specs.Answers.{status_of, text_of}
 use Rattle.pathsum.specs.Commands.{IsCommand}
 use Rattle.pathsum.specs.Splits.{IsParted, Lacks}
-use Rattle.pathsum.specs.Texts.{IsReadAs, Given, both, refuses, TextsAre, widths, circuits}
-use Rattle.pathsum.specs.Givens.{OfCircuits, differ, agree}
+use Rattle.pathsum.specs.Texts.{IsReadAs, Given, both, refuses, TextsAre, first_fault, second_fault, widths, circuits}
+use Rattle.pathsum.specs.Givens.{given_in, IsNear, OfCircuits, differ, agree}
 use Rattle.pathsum.specs.Verdicts.{IsVerdict, Says, says_yes, says_no, says_stuck, says_passed}
 use Rattle.pathsum.specs.Proofs.{Proves, derived, other, Echoes, accepted, rejected, left, IsReplay, Works}
 use Rattle.pathsum.specs.Ended.{Judges, lacking, refused, judged, Deserves, Commands, Answers, Ends, Writes}
@@ -142,11 +149,31 @@ no_command words f g h command.Prove = g
 no_command words f g h command.Replay = h
 
 -- ---- refusals
-pub refusal_near : (bytes : List ℕ) (why : Refusal) (at inside line column column' : ℕ) → inside ≡ at → column' ≡ column → IsPlace bytes inside line column → IsRefusal bytes why at (Refused why line column')
-refusal_near bytes why at inside line column column' e f p = record { line = line; column = column'; place = subst (λ (k : ℕ). IsPlace bytes at line k) (sym f) (subst (λ (k : ℕ). IsPlace bytes k line column) e p); told = refl }
+near_or_far : (x y : ℕ) → (x ≤ y) ⊎ (y ≤ x)
+near_or_far zero y = inl (omega arith)
+near_or_far (suc x) zero = inr (omega arith)
+near_or_far (suc x) (suc y) = up (near_or_far x y)
+  where
+    up : (x ≤ y) ⊎ (y ≤ x) → (suc x ≤ suc y) ⊎ (suc y ≤ suc x)
+    up (inl l) = inl (omega (arith, l))
+    up (inr l) = inr (omega (arith, l))
 
-pub refusal_far : (bytes : List ℕ) (why : Refusal) (at inside line column column' : ℕ) → inside ≡ length bytes → length bytes ≤ at → column' ≡ column + (at - length bytes) → IsPlace bytes inside line column → IsRefusal bytes why at (Refused why line column')
-refusal_far bytes why at inside line column column' e l f p = record { line = line; column = column'; place = subst (λ (k : ℕ). IsPlace bytes at line k) (sym f) (place_beyond bytes at line column l (subst (λ (k : ℕ). IsPlace bytes k line column) e p)); told = refl }
+pub refusal_at : (bytes : List ℕ) (why : Refusal) (at inside line column column' : ℕ) → inside ≡ min at (length bytes) → column' ≡ column + (at - inside) → IsPlace bytes inside line column → IsRefusal bytes why at (Refused why line column')
+refusal_at bytes why at inside line column column' e f p = record { line = line; column = column'; place = by (near_or_far at (length bytes)); told = refl }
+  where
+    by : (at ≤ length bytes) ⊎ (length bytes ≤ at) → IsPlace bytes at line column'
+    by (inl l) =
+        let k : inside ≡ at = e ∙ min-eq_left l in
+        let m : column' ≡ column = omega (arith, f, k) in
+        subst (λ (i : ℕ). IsPlace bytes at line i) (sym m) (subst (λ (i : ℕ). IsPlace bytes i line column) k p)
+    by (inr l) =
+        let k : inside ≡ length bytes = e ∙ min-eq_right l in
+        let m : column' ≡ column + (at - length bytes) = f ∙ ap (λ i. column + (at - i)) k in
+        subst (λ (i : ℕ). IsPlace bytes at line i) (sym m) (place_beyond bytes at line column l (subst (λ (i : ℕ). IsPlace bytes i line column) k p))
+
+-- the column of a place is near
+pub column_near : (bytes : List ℕ) (at inside line column : ℕ) → at ≤ 8589934591 → inside ≡ min at (length bytes) → IsPlace bytes inside line column → column + (at - inside) ≤ 8589934592
+column_near bytes at inside line column h e p = let k : inside ≤ at = subst (λ (i : ℕ). i ≤ at) (sym e) (min-le_left at (length bytes)) in let m = p.cell.2 in omega (arith, h, k, m)
 
 pub lacks_judged : (c : Command) (bytes : List ℕ) (at : ℕ) (answer : Answer) → at ≡ length bytes → Lacks c bytes → IsRefusal bytes Separator at answer → Judged c bytes answer
 lacks_judged c bytes at answer e h r = inr (subst (Judges c bytes) (sym r.told) (lacking {line = r.line} {column = r.column} h (subst (λ (k : ℕ). IsPlace bytes k r.line r.column) e r.place)))
@@ -158,6 +185,36 @@ pub work_judged : (c : Command) (bytes a b d : List ℕ) (start n : ℕ) (A B : 
 work_judged c bytes a b d start n A B answer p t w = inr (judged a b d start n A B p t w)
 
 -- ---- texts
+pub first_told : (a b : List ℕ) (start : ℕ) (name : FaultName) (at : ℕ) (g : Given) → IsReadAs a (Err (Fault name at)) → g ≡ refuses (Text name) (0 + at) → TextsAre a b start g
+first_told a b start name at g x e =
+    let z : 0 + at ≡ at = omega arith in
+    subst (TextsAre a b start) (sym (e ∙ ap (refuses (Text name)) z)) (first_fault x)
+
+pub fault_read : (text : List ℕ) (f : ReadFault) (name : FaultName) (at : ℕ) → f ≡ Fault name at → CircuitTold (Err f) (ReadsText text) → CircuitTold (Err f) (λ a. (b : Result CircuitOf ReadFault) → ReadsText text b → b ≡ a) → IsReadAs text (Err (Fault name at))
+fault_read text f name at e r o = record {
+  reads = subst (λ (x : ReadFault). CircuitTold (Err x) (ReadsText text)) e r;
+  only = subst (λ (x : ReadFault). CircuitTold (Err x) (λ a. (b : Result CircuitOf ReadFault) → ReadsText text b → b ≡ a)) e o;
+}
+
+pub second_told : (a b : List ℕ) (start : ℕ) (c : CircuitOf) (name : FaultName) (at : ℕ) (g : Given) → IsReadAs a (Ok c) → IsReadAs b (Err (Fault name at)) → g ≡ refuses (Text name) (start + at) → TextsAre a b start g
+second_told a b start c name at g x y e = subst (TextsAre a b start) (sym e) (second_fault {c = c} x y)
+
+-- what was read, in a branch of its own
+pub near_refusal : (t : TwoTexts) (why : Refusal) (at : ℕ) → t ≡ Refuses why at → IsNear t → at ≤ 8589934591
+near_refusal t why at e n = subst IsNear e n
+
+pub refuses_read : (a b : List ℕ) (start : ℕ) (t : TwoTexts) (why : Refusal) (at : ℕ) → t ≡ Refuses why at → TextsAre a b start (given_in t) → TextsAre a b start (refuses why at)
+refuses_read a b start t why at e x = subst (λ (u : TwoTexts). TextsAre a b start (given_in u)) e x
+
+pub both_read : (a b : List ℕ) (start : ℕ) (t : TwoTexts) (pair : Pair) → t ≡ Both pair → TextsAre a b start (given_in t) → TextsAre a b start (both pair.qubits (run_of pair.first) (run_of pair.second))
+both_read a b start t pair e x = subst (λ (u : TwoTexts). TextsAre a b start (given_in u)) e x
+
+pub widths_told : (c d : CircuitOf) (start at : ℕ) → c.qubits ≢ d.qubits → at ≡ start → OfCircuits c d start (refuses Widths at)
+widths_told c d start at h e = subst (λ (i : ℕ). OfCircuits c d start (refuses Widths i)) (sym e) (differ h)
+
+pub circuits_told : (c d : CircuitOf) (start : ℕ) → c.qubits ≡ d.qubits → OfCircuits c d start (both c.qubits (run_of c.items) (run_of d.items))
+circuits_told c d start e = agree e
+
 pub texts_of : (a b : List ℕ) (start : ℕ) (c d : CircuitOf) (g : Given) → IsReadAs a (Ok c) → IsReadAs b (Ok d) → OfCircuits c d start g → TextsAre a b start g
 texts_of a b start c d g x y (differ h) = widths {c = c} {d = d} x y h
 texts_of a b start c d g x y (agree h) = circuits {c = c} {d = d} x y h

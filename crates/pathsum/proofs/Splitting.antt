@@ -1,5 +1,6 @@
 -- Splitting bytes at the first separator.
-use Rattle.std.proofs.Common.{◌≡◌, ◌≢◌, ℕ, zero, suc, ◌+◌, ◌-◌, ◌<◌, ◌≤◌, refl, ap, ap₂, sym, ◌∙◌, subst, arith, List, [], ◌∷◌, ◌++◌, length, take, drop, codes, append_assoc, ◌⊎◌, inl, inr, get_or, length-drop}
+use Rattle.std.proofs.Common.{◌≡◌, ◌≢◌, ℕ, zero, suc, ◌+◌, ◌-◌, ◌<◌, ◌≤◌, refl, ap, ap₂, sym, ◌∙◌, subst, arith, List, [], ◌∷◌, ◌++◌, length, take, drop, codes, append_assoc, ◌⊎◌, inl, inr, get_or, length-drop, Bool, true, nat_eq}
+use Rattle.std.proofs.lemmas.Bool.Decides.{Decides-eqb}
 use Rattle.std.proofs.lemmas.List.{take-append-drop, length-append, take_more, take_all}
 use Rattle.std.proofs.Math.Seq.{take-append_seam, drop-append_seam}
 use Rattle.std.specs.Prelude.{Option, Some, None, MatchOption}
@@ -119,6 +120,15 @@ begins_behind bytes at k b e h g f = some (take k bytes) (front_of bytes at k b 
 pub begins_nowhere : (bytes : List ℕ) (at k b : ℕ) → at ≡ suc k → at ≤ length bytes → b ≡ get_or bytes k b → AreLines (take at bytes) → b ≡ 10
 begins_nowhere bytes at k b e h g l = lines_last (take k bytes) b (take at bytes) (front_of bytes at k b e h g) l
 
+pub begins_decide : (bytes : List ℕ) (at b : ℕ) (r : Bool) → (at ≡ 0 → ⊥) → at ≤ length bytes → b ≡ get_or bytes (at - 1) b → r ≡ nat_eq b 10 → (r ≡ true → AreLines (take at bytes)) × (AreLines (take at bytes) → r ≡ true)
+begins_decide bytes zero b r n h g e = absurd (n refl)
+begins_decide bytes (suc k) b r n h g e =
+    let f : suc k - 1 ≡ k = omega arith in
+    let i : b ≡ get_or bytes k b = g ∙ ap (λ j. get_or bytes j b) f in (
+      λ t. begins_behind bytes (suc k) k b refl h i ((Decides-eqb b 10).0 (sym e ∙ t)),
+      λ l. e ∙ (Decides-eqb b 10).1 (begins_nowhere bytes (suc k) k b refl h i l),
+    )
+
 -- ---- a separator at a place
 front_is : (bytes text behind : List ℕ) → bytes ≡ text ++ behind → text ≡ take (length text) bytes
 front_is bytes text behind e = sym (ap (take (length text)) e ∙ take-append_seam text behind)
@@ -236,3 +246,7 @@ pub parts_or_lacks : (c : Command) (bytes a b d : List ℕ) (s : ℕ) → IsPart
 parts_or_lacks Same bytes a b d s p h = h a b p.split.separates
 parts_or_lacks Prove bytes a b d s p h = h a b p.split.separates
 parts_or_lacks Replay bytes a b d s p h = three_or_lacks bytes a b d s p h
+
+pub above_zero : (at n : ℕ) → (at ≡ 0 → ⊥) → at ≤ n → at - 1 < n
+above_zero zero n h l = absurd (h refl)
+above_zero (suc k) n h l = omega (arith, l)

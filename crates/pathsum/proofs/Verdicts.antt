@@ -1,12 +1,13 @@
 -- Items as they are compared, and verdicts as answers.
-use Rattle.std.proofs.Common.{◌≡◌, ◌≢◌, ℕ, zero, suc, ◌+◌, ◌<◌, ◌≤◌, refl, ap, ap₂, sym, ◌∙◌, subst, arith, List, [], ◌∷◌, ◌++◌, length, take, get_or, map}
-use Rattle.std.proofs.lemmas.List.{take_more, take_all}
+use Rattle.std.proofs.Common.{◌≡◌, ◌≢◌, ℕ, zero, suc, ◌+◌, ◌<◌, ◌≤◌, refl, ap, ap₂, sym, ◌∙◌, subst, arith, List, [], ◌∷◌, ◌++◌, length, take, get_or, map, ◌*◌, Bool, true, false}
+use Rattle.std.proofs.lemmas.List.{take_more, take_all, length-append}
 use Rattle.std.specs.declared.sync.Arc.{Arc}
 use Rattle.std.specs.declared.alloc.Global.{Global}
 use Rattle.ps_prim.specs.declared.prims.Primitive.{Primitive as Prim}
 use Rattle.ps_prim.specs.declared.items.Item.{Item}
 use Rattle.ps_prim.specs.Maps.{AllWithin, SameMap}
 use Rattle.ps_sum.specs.declared.sums.PathSum.{PathSum}
+use Rattle.ps_sum.specs.declared.faults.Passed.{Passed as Limit}
 use Rattle.ps_rules.specs.declared.steps.Step.{Step}
 use Rattle.ps_rules.specs.declared.steps.Move.{Move}
 use Rattle.ps_reach.specs.declared.evidence.Body.{Body}
@@ -84,6 +85,12 @@ run_more (b ∷ L) i = ap (λ r. b ++ r) (run_more L i) ∙ sym (assoc b (run_of
     assoc [] ys zs = refl
     assoc (x ∷ xs) ys zs = ap (λ r. x ∷ r) (assoc xs ys zs)
 
+pub untrue : {b : Bool} → b ≡ false → b ≡ true → ⊥
+untrue {b} e f = off (sym e ∙ f)
+  where
+    off : false ≡ true → ⊥
+    off g = cc
+
 -- the prims of the first items
 abbrev pub prims_to : List Item → ℕ → List Prim
 prims_to items i = run_of (map prims_in (take i items))
@@ -96,6 +103,27 @@ pub prims_more : (items : List Item) (i : ℕ) (item : Item) (prims more added :
 prims_more items i item prims more added h e f g w =
     g ∙ ap₂ (λ (x y : List Prim). x ++ y) w f ∙ sym (run_more (map prims_in (take i items)) item.prims) ∙ ap run_of (sym (map_more prims_in (take i items) item))
     ∙ ap (λ (l : List Item). run_of (map prims_in l)) (ap (λ x. take i items ++ x ∷ []) e ∙ sym (take_more items i item h))
+
+-- each item has at most 4,096
+pub few_more : (i : ℕ) (prims more added : List Prim) (item : Item) → added ≡ item.prims → more ≡ prims ++ added → length prims ≤ 4096 * i → length more ≤ 4096 * (i + 1)
+few_more i prims more added item f g h =
+    let e = ap length g ∙ length-append prims added in
+    let k = ap length f in
+    let b = item.bounded.0 in
+    omega (arith, e, k, b, h)
+
+pub few_all : (items : List Item) (i : ℕ) (prims : List Prim) (lists : List (List Prim)) → i ≤ length items → map prims_in items ≡ lists → length prims ≤ 4096 * i → length prims ≤ 4096 * length lists
+few_all items i prims lists h e l = let k = sym (ap length e) ∙ counted items in omega (arith, h, k, l)
+  where
+    counted : (xs : List Item) → length (map prims_in xs) ≡ length xs
+    counted [] = refl
+    counted (x ∷ xs) = ap suc (counted xs)
+
+pub few_run : (prims : List Prim) (lists : List (List Prim)) (all : List Prim) → all ≡ prims → length lists ≤ 65536 → length prims ≤ 4096 * length lists → length all ≤ 268435456
+few_run prims lists all e l h = let k = ap length e in omega (arith, k, l, h)
+
+pub all_within : (n : ℕ) (lists : List (List Prim)) (prims all : List Prim) → all ≡ prims → prims ≡ run_of lists → ItemsWithin n lists → AllWithin n all
+all_within n lists prims all e f w = subst (AllWithin n) (sym (e ∙ f)) (within_run n lists w)
 
 pub prims_all : (items : List Item) (i : ℕ) (prims : List Prim) (lists : List (List Prim)) → length items ≤ i → map prims_in items ≡ lists → prims ≡ prims_to items i → prims ≡ run_of lists
 prims_all items i prims lists h e w = w ∙ ap (λ (l : List Item). run_of (map prims_in l)) (take_all i items h) ∙ ap run_of e
@@ -156,11 +184,29 @@ derivation_told n I K j d dec r1 r2 v ls h = derived (record {
     k2 : KeptAs (outcome_of j.second.value) j.second.value.moves
     k2 = kept_second j.second.value.moves j.second.value.body f c refl
 
+says_yes_back : (n : ℕ) (f : Finding) (a : Answer) → Says n f a → a ≡ Yes → f ≡ yes
+says_yes_back n f a says_yes e = refl
+says_yes_back n f a (says_no {input = i} p q) e = absurd (no_no i e)
+  where
+    no_no : (i : Input) → No i ≡ Yes → ⊥
+    no_no i e = cc
+says_yes_back n f a (says_stuck {S = S}) e = absurd (no_stuck S e)
+  where
+    no_stuck : (S : PathSum) → Stuck S ≡ Yes → ⊥
+    no_stuck S e = cc
+says_yes_back n f a (says_passed {passed = p} q) e = absurd (no_passed p e)
+  where
+    no_passed : (p : Limit) → Passed p ≡ Yes → ⊥
+    no_passed p e = cc
+
+found_yes : (v : Verdict) → finding_of v ≡ yes → v ≡ verdict.Yes
+found_yes verdict.Yes e = refl
+found_yes (verdict.No b) e = cc
+found_yes (verdict.Stuck S) e = cc
+found_yes (verdict.Passed w) e = cc
+
 no_other_yes : (n : ℕ) (v : Verdict) (a : Answer) → (v ≡ verdict.Yes → ⊥) → Says n (finding_of v) a → a ≢ Yes
-no_other_yes n verdict.Yes a h s e = h refl
-no_other_yes n (verdict.No b) (No i) h s e = cc
-no_other_yes n (verdict.Stuck S) (Stuck T) h s e = cc
-no_other_yes n (verdict.Passed w) (Passed p) h s e = cc
+no_other_yes n v a h s e = h (found_yes v (says_yes_back n (finding_of v) a s e))
 
 pub other_told : (n : ℕ) (A B : List Prim) (ss : List Step) (v : Verdict) (a : Answer) → Decides n A B ss (finding_of v) → (v ≡ verdict.Yes → ⊥) → Says n (finding_of v) a → Proves n A B a
 other_told n A B ss v a d h s = other (verdict_told n A B ss v a d s) (no_other_yes n v a h s)
@@ -179,3 +225,12 @@ accepted_only r a left e = absurd (no_left e)
 
 pub replay_told : (n : ℕ) (A B A' B' : List Prim) (d : List ℕ) (r : Replayed) (a : Answer) → A ≡ A' → B ≡ B' → Replays n A B d r → (r ≡ replayed.Accepted → SameMap n A B) → Echoes r a → IsReplay n A' B' d a
 replay_told n A B A' B' d r a e f x s t = subst (λ (C : List Prim). IsReplay n A' C d a) f (subst (λ (C : List Prim). IsReplay n C B d a) e (record { replayed = r; replays = x; told = t; sound = λ h. s (accepted_only r a t h) }))
+
+pub echoed_accepted : (r : Replayed) → r ≡ replayed.Accepted → Echoes r Accepted
+echoed_accepted r e = subst (λ x. Echoes x Accepted) (sym e) accepted
+
+pub echoed_left : (r : Replayed) (S : PathSum) → r ≡ replayed.Left S → Echoes r (Left S)
+echoed_left r S e = subst (λ x. Echoes x (Left S)) (sym e) left
+
+pub echoed_rejected : (r : Replayed) (l : ℕ) (w : Why) → r ≡ replayed.Rejected l w → Echoes r (Rejected l w)
+echoed_rejected r l w e = subst (λ x. Echoes x (Rejected l w)) (sym e) rejected

@@ -1,7 +1,6 @@
 //! The commands over a source and a sink.
 
 ghost use Rattle.std.specs.Prelude.{◌≤◌, length};
-ghost use Rattle.qasm_lex.specs.Places.{IsPlace};
 ghost use Rattle.pathsum.specs.Ended.{Deserves, Ends};
 ghost use Rattle.pathsum.specs.Judgements.{Judged, IsRefusal};
 
@@ -79,7 +78,8 @@ fn judge(alloc: Global, command: Command, bytes: &[u8]) -> Answer
 
 // The answer to an input that is refused at a byte of it.
 fn refused(bytes: &[u8], why: Refusal, at: u64) -> Answer
-    requires { length bytes.now ≤ 16777216 }
+    requires small { length bytes.now ≤ 16777216 }
+    requires near { at ≤ 8589934591 }
     ensures { IsRefusal bytes.now why at result }
 {
     let inside = at.min(bytes.len() as u64);

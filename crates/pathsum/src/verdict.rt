@@ -1,6 +1,6 @@
 //! The answers to two circuits.
 
-ghost use Rattle.std.specs.Prelude.{◌≡◌, ◌≤◌, ◌↔◌, ◌∷◌, [], length, map, IsTrue, IfOk};
+ghost use Rattle.std.specs.Prelude.{◌≡◌, ◌*◌, ◌≤◌, ◌↔◌, length, IsTrue, IfOk};
 ghost use Rattle.ps_reach.specs.Runs.{run_of};
 ghost use Rattle.ps_reach.specs.Judging.{finding_of};
 ghost use Rattle.ps_reach.specs.Fillings.{Fills};
@@ -96,7 +96,8 @@ fn shared(alloc: Global, items: qasm_expand::Items) -> Result<Items, AllocError>
 
 // All prims of the items in order.
 fn prims(alloc: Global, items: &qasm_expand::Items) -> Result<Vec<Prim>, AllocError>
-    ensures { IfOk result (λ v. v.items ≡ run_of items.now) }
+    ensures run { IfOk result (λ v. v.items ≡ run_of items.now) }
+    ensures few { IfOk result (λ v. length v.items ≤ 4096 * length items.now) }
 {
     let mut prims = Vec::new(alloc);
     for item in items.as_slice() {
