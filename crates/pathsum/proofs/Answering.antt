@@ -1,5 +1,5 @@
 -- There is one answer to an input.
-use Rattle.std.proofs.Common.{◌≡◌, ◌≢◌, ℕ, refl, ap, sym, ◌∙◌, subst, arith, ◌+◌, ◌<◌, ◌≤◌, List, [], ◌∷◌, ◌++◌, length, map, codes, decimal, Option, Some, None, Result, Ok, Err, ◌⊎◌, inl, inr}
+use Rattle.std.proofs.Common.{◌≡◌, ◌≢◌, ℕ, refl, ap, sym, ◌∙◌, subst, arith, ◌+◌, ◌<◌, ◌≤◌, List, [], ◌∷◌, ◌++◌, length, map, codes, Option, Some, None, Result, Ok, Err}
 use Rattle.ps_prim.specs.declared.prims.Primitive.{Primitive as Prim}
 use Rattle.ps_sum.specs.declared.sums.PathSum.{PathSum}
 use Rattle.ps_sum.specs.declared.faults.Passed.{Passed as Limit}
@@ -15,11 +15,10 @@ use Rattle.ps_reach.proofs.Justifying.{compares_only}
 use Rattle.ps_normal.specs.Comparing.{Decides}
 use Rattle.ps_normal.specs.Deriving.{lines_by}
 use Rattle.ps_steps.specs.declared.derivation.Derivation.{Derivation}
-use Rattle.ps_steps.specs.Texts.{derivation_text, lines_text}
+use Rattle.ps_steps.specs.Texts.{lines_text}
 use Rattle.ps_replay.specs.declared.replayed.Replayed.{Replayed}
 use Rattle.ps_replay.specs.declared.replayed.Replayed.TheVariants as replayed
 use Rattle.ps_replay.specs.declared.replayed.Why.{Why}
-use Rattle.ps_replay.specs.Replaying.{Replays}
 use Rattle.ps_replay.proofs.Once.{replays_once}
 use Rattle.qasm_expand.specs.declared.fault.FaultName.{FaultName}
 use Rattle.qasm_expand.specs.declared.fault.ReadFault.{ReadFault}
@@ -32,15 +31,14 @@ use Rattle.pathsum.specs.declared.input.Input.{Input}
 use Rattle.pathsum.specs.declared.commands.Command.{Command}
 use Rattle.pathsum.specs.declared.commands.Command.TheVariants as command
 use Rattle.pathsum.specs.declared.refusals.Refusal.{Refusal}
-use Rattle.pathsum.specs.declared.refusals.Refusal.TheVariants.{Text, Separator, Widths}
-use Rattle.pathsum.specs.Answers.{status_of, text_of, limit_words}
-use Rattle.pathsum.specs.Commands.{IsCommand, word_of}
+use Rattle.pathsum.specs.declared.refusals.Refusal.TheVariants.{Text, Separator}
+use Rattle.pathsum.specs.Commands.{IsCommand}
 use Rattle.pathsum.specs.Inputs.{bit_code}
-use Rattle.pathsum.specs.Splits.{IsParted, Lacks}
+use Rattle.pathsum.specs.Splits.{IsParted}
 use Rattle.pathsum.specs.Texts.{IsReadAs, Given, both, refuses, TextsAre, first_fault, second_fault, widths, circuits}
 use Rattle.pathsum.specs.Verdicts.{Says, says_yes, says_no, says_stuck, says_passed, IsVerdict}
 use Rattle.pathsum.specs.Proofs.{IsDerivation, Proves, derived, other, Echoes, accepted, rejected, left, IsReplay, Works}
-use Rattle.pathsum.specs.Ended.{Judges, lacking, refused, judged, Deserves, Commands, Answers, IsOfInput, Agree, IsOneAnswer}
+use Rattle.pathsum.specs.Ended.{Judges, lacking, refused, judged, Answers, IsOfInput, Agree, IsOneAnswer}
 use Rattle.pathsum.proofs.Splitting.{parts_once, parts_or_lacks}
 use Rattle.pathsum.proofs.Placing.{place_once}
 

@@ -1,5 +1,5 @@
 -- From what is found of two texts to the answer of a call.
-use Rattle.std.proofs.Common.{◌≡◌, ◌≢◌, ℕ, zero, suc, min, refl, ap, sym, ◌∙◌, ◌+◌, ◌-◌, ◌<◌, ◌≤◌, Option, Some, None, List, [], ◌∷◌, ◌++◌, length, subst, ◌⊎◌, inl, inr, append-nil, get_or, map, arith, Bool, true, Result, Ok, Err}
+use Rattle.std.proofs.Common.{◌≡◌, ◌≢◌, ℕ, zero, suc, min, refl, ap, sym, ◌∙◌, ◌+◌, ◌-◌, ◌≤◌, Option, Some, None, List, [], ◌∷◌, ◌++◌, length, subst, ◌⊎◌, inl, inr, append-nil, get_or, map, arith, Bool, true, Result, Ok, Err}
 use Rattle.std.proofs.Math.Nat.{min-eq_left, min-eq_right, min-le_left}
 use Rattle.std.specs.Str.{bytes_eq}
 use Rattle.std.proofs.lemmas.Slice.Eq.{bytes_eq-Decides}
@@ -29,9 +29,9 @@ use Rattle.pathsum.specs.Commands.{IsCommand}
 use Rattle.pathsum.specs.Splits.{IsParted, Lacks}
 use Rattle.pathsum.specs.Texts.{IsReadAs, Given, both, refuses, TextsAre, first_fault, second_fault, widths, circuits}
 use Rattle.pathsum.specs.Givens.{given_in, IsNear, OfCircuits, differ, agree}
-use Rattle.pathsum.specs.Verdicts.{IsVerdict, Says, says_yes, says_no, says_stuck, says_passed}
-use Rattle.pathsum.specs.Proofs.{Proves, derived, other, Echoes, accepted, rejected, left, IsReplay, Works}
-use Rattle.pathsum.specs.Ended.{Judges, lacking, refused, judged, Deserves, Commands, Answers, Ends, Writes}
+use Rattle.pathsum.specs.Verdicts.{Says, says_yes, says_no, says_stuck, says_passed}
+use Rattle.pathsum.specs.Proofs.{Proves, derived, other, Echoes, accepted, rejected, left, Works}
+use Rattle.pathsum.specs.Ended.{Judges, lacking, refused, judged, Deserves, Answers, Ends, Writes}
 use Rattle.pathsum.specs.Judgements.{Judged, IsRefusal}
 use Rattle.pathsum.proofs.Placing.{place_beyond}
 

@@ -1,5 +1,5 @@
 -- A byte of a text is at one line and one column.
-use Rattle.std.proofs.Common.{◌≡◌, ◌≢◌, ℕ, zero, suc, ◌+◌, ◌-◌, ◌<◌, ◌≤◌, refl, ap, sym, ◌∙◌, subst, arith, List, [], ◌∷◌, ◌++◌, length, take, ◌⊎◌, inl, inr, get_or, ◌==◌, count_by}
+use Rattle.std.proofs.Common.{◌≡◌, ◌≢◌, ℕ, zero, suc, ◌+◌, ◌-◌, ◌<◌, ◌≤◌, refl, ap, sym, ◌∙◌, arith, List, [], ◌∷◌, length, ◌⊎◌, inl, inr, ◌==◌, count_by}
 use Rattle.std.proofs.lemmas.List.{take_all}
 use Rattle.qasm_lex.specs.Tokens.{byte}
 use Rattle.qasm_lex.specs.Places.{IsLine, IsPlace}
@@ -25,6 +25,7 @@ line_once bytes at s t a b = by (cases s t)
         up (inl e) = inl (ap suc e)
         up (inr (inl h)) = inr (inl (omega (arith, h)))
         up (inr (inr h)) = inr (inr (omega (arith, h)))
+
     by : (s ≡ t) ⊎ ((s < t) ⊎ (t < s)) → s ≡ t
     by (inl e) = e
     by (inr (inl h)) = absurd (not_behind bytes at s t a b h)
@@ -51,11 +52,15 @@ past_end (b ∷ bytes) (suc k) h e = past_end bytes k (omega (arith, h)) e
 pub place_beyond : (bytes : List ℕ) (at line column : ℕ) → length bytes ≤ at → IsPlace bytes (length bytes) line column → IsPlace bytes at line (column + (at - length bytes))
 place_beyond bytes at line column h p = record {
   row = p.row ∙ ap (λ (t : List ℕ). 1 + count_by (λ b. b == 10) t) (take_all (length bytes) bytes (omega arith) ∙ sym (take_all at bytes h));
-  cell = (p.cell.0, record {
-    ordered = (let o = p.cell.1.ordered in omega (arith, o, h));
-    begins = p.cell.1.begins;
-    inner = λ k a b. inside k a;
-  }, omega (arith, h, p.cell.2));
+  cell = (
+    p.cell.0,
+    record {
+      ordered = (let o = p.cell.1.ordered in omega (arith, o, h));
+      begins = p.cell.1.begins;
+      inner = λ k a b. inside k a;
+    },
+    omega (arith, h, p.cell.2),
+  );
 }
   where
     near_or_far : (x y : ℕ) → (x < y) ⊎ (y ≤ x)
@@ -66,6 +71,7 @@ place_beyond bytes at line column h p = record {
         up : (x < y) ⊎ (y ≤ x) → (suc x < suc y) ⊎ (suc y ≤ suc x)
         up (inl l) = inl (omega (arith, l))
         up (inr l) = inr (omega (arith, l))
+
     inside : (k : ℕ) → p.cell.0 ≤ k → byte bytes k ≢ 10
     inside k a = by (near_or_far k (length bytes))
       where

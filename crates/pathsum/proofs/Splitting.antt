@@ -1,7 +1,7 @@
 -- Splitting bytes at the first separator.
-use Rattle.std.proofs.Common.{◌≡◌, ◌≢◌, ℕ, zero, suc, ◌+◌, ◌-◌, ◌<◌, ◌≤◌, refl, ap, ap₂, sym, ◌∙◌, subst, arith, List, [], ◌∷◌, ◌++◌, length, take, drop, codes, append_assoc, ◌⊎◌, inl, inr, get_or, length-drop, Bool, true, nat_eq}
+use Rattle.std.proofs.Common.{◌≡◌, ◌≢◌, ℕ, zero, suc, ◌+◌, ◌-◌, ◌<◌, ◌≤◌, refl, ap, sym, ◌∙◌, subst, arith, List, [], ◌∷◌, ◌++◌, length, take, drop, codes, ◌⊎◌, inl, inr, get_or, Bool, true, nat_eq}
 use Rattle.std.proofs.lemmas.Bool.Decides.{Decides-eqb}
-use Rattle.std.proofs.lemmas.List.{take-append-drop, length-append, take_more, take_all}
+use Rattle.std.proofs.lemmas.List.{take-append-drop, length-append, take_more}
 use Rattle.std.proofs.Math.Seq.{take-append_seam, drop-append_seam}
 use Rattle.std.specs.Prelude.{Option, Some, None, MatchOption}
 use Rattle.pathsum.specs.declared.commands.Command.{Command}
@@ -151,6 +151,7 @@ mark_long bytes rest m = let k = mark_behind bytes rest m in let e = ap length k
     ends : (l : List ℕ) → EndsLine l rest → length rest ≤ length l
     ends l (at_end e f) = let g = ap length f in omega (arith, g)
     ends l (at_feed e) = let g = ap length e in omega (arith, g)
+
     by : (l : List ℕ) → length bytes ≡ length (equals l) → Behind l rest → length rest + 4 ≤ length bytes
     by l e (at_once f) = omega (arith, e, ends l f)
     by l e (behind_return {b} p f) = let g = ap length p in omega (arith, e, g, ends b f)

@@ -1,5 +1,5 @@
 -- Items as they are compared, and verdicts as answers.
-use Rattle.std.proofs.Common.{◌≡◌, ◌≢◌, ℕ, zero, suc, ◌+◌, ◌<◌, ◌≤◌, refl, ap, ap₂, sym, ◌∙◌, subst, arith, List, [], ◌∷◌, ◌++◌, length, take, get_or, map, ◌*◌, Bool, true, false}
+use Rattle.std.proofs.Common.{◌≡◌, ◌≢◌, ℕ, suc, ◌+◌, ◌<◌, ◌≤◌, refl, ap, ap₂, sym, ◌∙◌, subst, arith, List, [], ◌∷◌, ◌++◌, length, take, get_or, map, ◌*◌, Bool, true, false}
 use Rattle.std.proofs.lemmas.List.{take_more, take_all, length-append}
 use Rattle.std.specs.declared.sync.Arc.{Arc}
 use Rattle.std.specs.declared.alloc.Global.{Global}
@@ -13,19 +13,18 @@ use Rattle.ps_rules.specs.declared.steps.Move.{Move}
 use Rattle.ps_reach.specs.declared.evidence.Body.{Body}
 use Rattle.ps_reach.specs.declared.evidence.Body.TheVariants as body
 use Rattle.ps_reach.specs.declared.evidence.Evidence.{Evidence}
-use Rattle.ps_reach.specs.declared.record.Record.{Record}
 use Rattle.ps_reach.specs.declared.judged.Judged.{Judged}
 use Rattle.ps_reach.specs.declared.verdict.Verdict.{Verdict}
 use Rattle.ps_reach.specs.declared.verdict.Verdict.TheVariants as verdict
 use Rattle.ps_reach.specs.Runs.{prims_of, run_of}
-use Rattle.ps_reach.specs.Fillings.{Outcome, Fills, kept, passed}
-use Rattle.ps_reach.specs.Findings.{Finding, yes, Compares, first_limit, second_limit, sums, IsUnit, IsJustified}
+use Rattle.ps_reach.specs.Fillings.{Outcome, Fills, kept}
+use Rattle.ps_reach.specs.Findings.{Finding, yes, Compares, first_limit, second_limit, sums, IsJustified}
 use Rattle.ps_reach.specs.Parts.{outcome_by}
 use Rattle.ps_reach.specs.Judging.{finding_of, outcome_of}
 use Rattle.ps_reach.proofs.Denoting.{within_both}
 use Rattle.ps_reach.proofs.FillsOnce.{fills_only}
 use Rattle.ps_normal.specs.Comparing.{Decides}
-use Rattle.ps_normal.specs.Deriving.{lines_by, derivation_of, Derives}
+use Rattle.ps_normal.specs.Deriving.{derivation_of, Derives}
 use Rattle.ps_normal.specs.Fillings.{CanRun, IsRecordOf}
 use Rattle.ps_steps.specs.declared.derivation.Derivation.{Derivation}
 use Rattle.ps_steps.specs.Holding.{Holds}
@@ -39,7 +38,7 @@ use Rattle.pathsum.specs.declared.input.Input.{Input}
 use Rattle.pathsum.specs.declared.answer.Answer.{Answer}
 use Rattle.pathsum.specs.declared.answer.Answer.TheVariants.{Yes, Proof, No, Stuck, Passed, Accepted, Rejected, Left}
 use Rattle.pathsum.specs.Verdicts.{Says, says_yes, says_no, says_stuck, says_passed, IsVerdict}
-use Rattle.pathsum.specs.Proofs.{IsDerivation, Proves, derived, other, Echoes, accepted, rejected, left, IsReplay}
+use Rattle.pathsum.specs.Proofs.{Proves, derived, other, Echoes, accepted, rejected, left, IsReplay}
 
 -- ---- an answer tells its verdict
 pub told_yes : (n : ℕ) (v : Verdict) → v ≡ verdict.Yes → Says n (finding_of v) Yes
@@ -177,10 +176,13 @@ derivation_told n I K j d dec r1 r2 v ls h = derived (record {
   where
     f : finding_of j.verdict ≡ yes
     f = ap finding_of v
+
     c : Compares (outcome_of j.first.value) (outcome_of j.second.value) j.steps (finding_of j.verdict)
     c = subst (λ o. Compares o (outcome_of j.second.value) j.steps (finding_of j.verdict)) (fills_only dec.first_fills r1.outcome) (subst (λ o. Compares dec.first o j.steps (finding_of j.verdict)) (fills_only dec.second_fills r2.outcome) dec.compares)
+
     k1 : KeptAs (outcome_of j.first.value) j.first.value.moves
     k1 = kept_first j.first.value.moves j.first.value.body f c refl
+
     k2 : KeptAs (outcome_of j.second.value) j.second.value.moves
     k2 = kept_second j.second.value.moves j.second.value.body f c refl
 

@@ -1,5 +1,5 @@
 -- What the program can answer: the exit status and the bytes of each answer.
-use Rattle.std.specs.Prelude.{ℕ, List, [], ◌∷◌, ◌++◌, codes, decimal, map}
+use Rattle.std.specs.Prelude.{ℕ, List, ◌++◌, codes, decimal, map}
 use Rattle.ps_overlap.specs.Overlapping.{point}
 use Rattle.ps_sum.specs.declared.faults.What.{What}
 use Rattle.ps_sum.specs.declared.faults.What.TheVariants.{Terms, Variables}

@@ -1,12 +1,12 @@
 -- What a call of the program may answer and write.
-use Rattle.std.specs.Prelude.{ℕ, ◌≡◌, ◌<◌, ◌≤◌, Option, List, [], ◌∷◌, length, map, IfSome, Some}
+use Rattle.std.specs.Prelude.{ℕ, ◌≡◌, ◌<◌, ◌≤◌, Option, List, length, IfSome, Some}
 use Rattle.std.specs.Io.KnownBytes.{append_known}
 use Rattle.ps_io.specs.Counts.{Rose}
 use Rattle.ps_io.specs.Streams.{AppendsPrefix}
 use Rattle.ps_prim.specs.declared.prims.Primitive.{Primitive as Prim}
 use Rattle.qasm_lex.specs.Places.{IsPlace}
 use Rattle.pathsum.specs.declared.answer.Answer.{Answer}
-use Rattle.pathsum.specs.declared.answer.Answer.TheVariants.{Yes, Proof, No, Stuck, Passed, Accepted, Rejected, Left, Refused, Words, Read, TooLong, Memory}
+use Rattle.pathsum.specs.declared.answer.Answer.TheVariants.{Refused, Words, Read, TooLong, Memory}
 use Rattle.pathsum.specs.declared.commands.Command.{Command}
 use Rattle.pathsum.specs.declared.refusals.Refusal.{Refusal}
 use Rattle.pathsum.specs.declared.refusals.Refusal.TheVariants.{Separator}
@@ -14,7 +14,7 @@ use Rattle.pathsum.specs.Answers.{status_of, text_of}
 use Rattle.pathsum.specs.Commands.{IsCommand}
 use Rattle.pathsum.specs.Proofs.{Works}
 use Rattle.pathsum.specs.Splits.{IsParted, Lacks}
-use Rattle.pathsum.specs.Texts.{Given, both, refuses, TextsAre}
+use Rattle.pathsum.specs.Texts.{both, refuses, TextsAre}
 
 -- what an answer claims of an input that was read to its end: a separator is missing, told at the end of the input; or the
 -- texts are refused, told at the place of that; or the texts are read, and the answer is what the command does with them

@@ -29,7 +29,10 @@ pub enum Answer {
     /// The derivation shows that the two circuits are one linear map.
     Accepted,
     /// The derivation fails at this line, counted from 1.
-    Rejected { line: u32, why: Why },
+    Rejected {
+        line: u32,
+        why: Why,
+    },
     /// The derivation holds, and comes to this sum, which is not 1.
     Left(PathSum),
     /// The input is refused, at this line and this column, both counted from 1.
@@ -162,12 +165,7 @@ fn rejected_line(alloc: Global, line: u32, why: Why) -> Result<Vec<u8>, AllocErr
 }
 
 // `input` with why it is refused, and where.
-fn refused_line(
-    alloc: Global,
-    why: Refusal,
-    line: u32,
-    column: u64,
-) -> Result<Vec<u8>, AllocError>
+fn refused_line(alloc: Global, why: Refusal, line: u32, column: u64) -> Result<Vec<u8>, AllocError>
     ensures { IfOk result (λ v. v.items ≡ codes "input " ++ refusal_name why ++ codes " " ++ decimal line ++ codes ":" ++ decimal column ++ codes "\n") }
 {
     let name = why.name();

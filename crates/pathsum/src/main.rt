@@ -14,6 +14,8 @@ mod print;
 mod reading;
 mod refusals;
 mod splits;
+#[cfg(test)]
+mod tests;
 mod verdict;
 
 use answer::Answer;

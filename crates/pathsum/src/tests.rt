@@ -35,7 +35,7 @@ fn ends_so(alloc: Global, row: &Row) -> Result<bool, AllocError> {
 }
 
 // A row without faults.
-fn row<'a>(words: &'a [&'a str], input: &'a [u8], status: u8, printed: &'a [u8]) -> Row<'a> {
+fn told<'a>(words: &'a [&'a str], input: &'a [u8], status: u8, printed: &'a [u8]) -> Row<'a> {
     Row {
         words,
         input,
@@ -48,7 +48,7 @@ fn row<'a>(words: &'a [&'a str], input: &'a [u8], status: u8, printed: &'a [u8])
 
 // A row of `same` without faults.
 fn same<'a>(input: &'a [u8], status: u8, printed: &'a [u8]) -> Row<'a> {
-    row(&["same"], input, status, printed)
+    told(&["same"], input, status, printed)
 }
 
 // Two texts on these qubits with the library, each with its lines.
@@ -107,8 +107,10 @@ fn texts_with_the_library_are_answered(rt: HostRuntime) -> Result<(), Fail> {
 #[test]
 fn a_realistic_pair_is_answered(rt: HostRuntime) -> Result<(), Fail> {
     let alloc = rt.alloc();
-    let first = "creg c[3];\nh q[2];\ncp(pi/2) q[1],q[2];\nh q[1];\ncp(pi/4) q[0],q[2];\ncp(pi/2) q[0],q[1];\nh q[0];\nbarrier q[0],q[1],q[2];\nswap q[0],q[2];\n";
-    let second = "h q[2];\ncu1(pi/2) q[1],q[2];\nh q[1];\ncu1(pi/4) q[0],q[2];\ncu1(pi/2) q[0],q[1];\nh q[0];\nswap q[0],q[2];\n";
+    let first =
+        "creg c[3];\nh q[2];\ncp(pi/2) q[1],q[2];\nh q[1];\ncp(pi/4) q[0],q[2];\ncp(pi/2) q[0],q[1];\nh q[0];\nbarrier q[0],q[1],q[2];\nswap q[0],q[2];\n";
+    let second =
+        "h q[2];\ncu1(pi/2) q[1],q[2];\nh q[1];\ncu1(pi/4) q[0],q[2];\ncu1(pi/2) q[0],q[1];\nh q[0];\nswap q[0],q[2];\n";
     let input = pair(alloc, 3, first, second)?;
     assert!(rt; ends_so(alloc, &same(input.as_bytes(), 0, b"yes\n"))?);
     Ok(())
@@ -123,13 +125,23 @@ fn limits_are_told(rt: HostRuntime) -> Result<(), Fail> {
     }
     flips.push_str("u1(pi/8) q[63];\n")?;
     let terms = pair(alloc, 64, flips.as_str(), "")?;
-    assert!(rt; ends_so(alloc, &same(terms.as_bytes(), 2, b"unknown passed terms 679120\n"))?);
+    assert!(rt;
+        ends_so(
+            alloc,
+            &same(terms.as_bytes(), 2, b"unknown passed terms 679120\n")
+        )?
+    );
     let mut layers = String::from_str(alloc, "")?;
     for _ in 0..7u32 {
         layers.push_str("h q;\nt q;\n")?;
     }
     let variables = pair(alloc, 64, layers.as_str(), "")?;
-    assert!(rt; ends_so(alloc, &same(variables.as_bytes(), 2, b"unknown passed variables 513\n"))?);
+    assert!(rt;
+        ends_so(
+            alloc,
+            &same(variables.as_bytes(), 2, b"unknown passed variables 513\n")
+        )?
+    );
     Ok(())
 }
 
@@ -202,7 +214,7 @@ fn refusals_are_told(rt: HostRuntime) -> Result<(), Fail> {
             65,
             b"input NotDyadic 6:3\n",
         ),
-        row(
+        told(
             &["replay"],
             b"OPENQASM 2.0;\nqreg q[1];\n====\nOPENQASM 2.0;\nqreg q[2];\n",
             65,
@@ -242,9 +254,14 @@ const DERIVATION: &str =
 fn derivations_are_printed(rt: HostRuntime) -> Result<(), Fail> {
     let alloc = rt.alloc();
     let yes = pair(alloc, 1, "h q[0];\nh q[0];\n", "")?;
-    assert!(rt; ends_so(alloc, &row(&["prove"], yes.as_bytes(), 0, DERIVATION.as_bytes()))?);
+    assert!(rt;
+        ends_so(
+            alloc,
+            &told(&["prove"], yes.as_bytes(), 0, DERIVATION.as_bytes())
+        )?
+    );
     let no = pair(alloc, 1, "x q[0];\n", "")?;
-    assert!(rt; ends_so(alloc, &row(&["prove"], no.as_bytes(), 1, b"no 0\n"))?);
+    assert!(rt; ends_so(alloc, &told(&["prove"], no.as_bytes(), 1, b"no 0\n"))?);
     Ok(())
 }
 
@@ -301,7 +318,7 @@ fn derivations_are_replayed(rt: HostRuntime) -> Result<(), Fail> {
     for (first, document, status, printed) in rows {
         let texts = pair(alloc, 1, first, "")?;
         let input = format!(in alloc; "{texts}====\n{document}")?;
-        assert!(rt; ends_so(alloc, &row(&["replay"], input.as_bytes(), status, printed))?);
+        assert!(rt; ends_so(alloc, &told(&["replay"], input.as_bytes(), status, printed))?);
     }
     Ok(())
 }
@@ -317,10 +334,10 @@ fn words_and_faults_of_the_outside_are_told(rt: HostRuntime) -> Result<(), Fail>
             failing_write: Some(0),
             ..same(TWICE, 67, b"")
         },
-        row(&[], TWICE, 64, b"words\n"),
-        row(&["same", "same"], TWICE, 64, b"words\n"),
-        row(&["Prove"], TWICE, 64, b"words\n"),
-        row(&["gen", "1", "17", "3"], TWICE, 64, b"words\n"),
+        told(&[], TWICE, 64, b"words\n"),
+        told(&["same", "same"], TWICE, 64, b"words\n"),
+        told(&["Prove"], TWICE, 64, b"words\n"),
+        told(&["gen", "1", "17", "3"], TWICE, 64, b"words\n"),
     ];
     for row in &rows {
         assert!(rt; ends_so(rt.alloc(), row)?);

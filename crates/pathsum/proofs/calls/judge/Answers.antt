@@ -1,6 +1,6 @@
 use Rattle.std.proofs.Common.{refl}
 use Rattle.ps_reach.specs.Runs.{run_of}
-use Rattle.pathsum.proofs.Judging.{lacks_judged, refused_judged, work_judged, near_refusal, refuses_read, both_read}
+use Rattle.pathsum.proofs.Judging.{lacks_judged, refused_judged, work_judged, refuses_read, both_read}
 use Rattle.pathsum.proofs.calls.judge.Goals as goal
 
 pub returns-in_default : goal.returns-in_default

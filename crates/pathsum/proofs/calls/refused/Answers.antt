@@ -1,4 +1,4 @@
-use Rattle.std.proofs.Common.{◌≡◌, sym, ◌∙◌, arith, ap, ◌+◌, ◌-◌}
+use Rattle.std.proofs.Common.{arith, ap, ◌+◌, ◌-◌}
 use Rattle.pathsum.proofs.Judging.{refusal_at, column_near}
 use Rattle.pathsum.proofs.calls.refused.Goals as goal
 

@@ -1,4 +1,3 @@
-use Rattle.std.proofs.Common.{◌≡◌, List, ℕ}
 use Rattle.std.specs.Prelude.{string_bytes}
 use Rattle.pathsum.proofs.Judging.{one_decides}
 use Rattle.pathsum.proofs.commands.is_word.Goals as goal

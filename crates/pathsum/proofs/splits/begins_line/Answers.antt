@@ -1,4 +1,4 @@
-use Rattle.std.proofs.Common.{◌≡◌, ◌-◌, ◌<◌, refl, sym, arith, length}
+use Rattle.std.proofs.Common.{◌-◌, ◌<◌, refl, sym, length}
 use Rattle.std.proofs.lemmas.Grind.{get_or_default_zero}
 use Rattle.pathsum.proofs.Splitting.{begins_decide, above_zero}
 use Rattle.pathsum.proofs.splits.begins_line.Goals as goal

@@ -1,4 +1,4 @@
-use Rattle.std.proofs.Common.{◌≡◌, ◌-◌, arith, drop, length, length-drop}
+use Rattle.std.proofs.Common.{◌-◌, arith, drop, length, length-drop}
 use Rattle.std.proofs.lemmas.List.{take_all}
 use Rattle.pathsum.proofs.Splitting.{weaker, separates_at, not_marked, not_begun}
 use Rattle.pathsum.proofs.Verdicts.{untrue}

@@ -1,5 +1,5 @@
-use Rattle.std.proofs.Common.{◌≡◌, refl, arith}
-use Rattle.pathsum.proofs.Splitting.{split_first, none_before_first, none_before_next, none_at_all}
+use Rattle.std.proofs.Common.{refl, arith}
+use Rattle.pathsum.proofs.Splitting.{split_first, none_before_next, none_at_all}
 use Rattle.pathsum.proofs.splits.first_split.Goals as goal
 
 pub returns-in-Some : goal.returns-in-Some
