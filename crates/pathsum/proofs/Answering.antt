@@ -1,39 +1,64 @@
 -- There is one answer to an input.
-use Rattle.std.proofs.Common.{◌≡◌, ℕ, refl, ap, sym, ◌∙◌, subst, arith, ◌<◌, ◌≤◌, List, [], ◌∷◌, ◌++◌, length, map, codes, Option, Some, None}
+use Rattle.std.proofs.Common.{◌≡◌, ◌≢◌, ℕ, refl, ap, sym, ◌∙◌, subst, arith, ◌+◌, ◌<◌, ◌≤◌, List, [], ◌∷◌, ◌++◌, length, map, codes, Option, Some, None, Result, Ok, Err}
 use Rattle.ps_prim.specs.declared.prims.Primitive.{Primitive as Prim}
 use Rattle.ps_sum.specs.declared.sums.PathSum.{PathSum}
 use Rattle.ps_sum.specs.declared.faults.Passed.{Passed as Limit}
 use Rattle.ps_rules.specs.declared.steps.Step.{Step}
+use Rattle.ps_rules.specs.declared.steps.Move.{Move}
 use Rattle.ps_overlap.specs.Overlapping.{point}
 use Rattle.ps_reach.specs.Overruns.{Overrun}
-use Rattle.ps_reach.specs.Fillings.{Outcome}
+use Rattle.ps_reach.specs.Runs.{run_of}
+use Rattle.ps_reach.specs.Fillings.{Outcome, Fills, kept}
 use Rattle.ps_reach.specs.Findings.{Finding, yes, no, stuck, limit, Compares}
 use Rattle.ps_reach.proofs.FillsOnce.{fills_only}
 use Rattle.ps_reach.proofs.Justifying.{compares_only}
 use Rattle.ps_normal.specs.Comparing.{Decides}
+use Rattle.ps_normal.specs.Deriving.{lines_by}
+use Rattle.ps_steps.specs.declared.derivation.Derivation.{Derivation}
+use Rattle.ps_steps.specs.Texts.{lines_text}
+use Rattle.ps_replay.specs.declared.replayed.Replayed.{Replayed}
+use Rattle.ps_replay.specs.declared.replayed.Replayed.TheVariants as replayed
+use Rattle.ps_replay.specs.declared.replayed.Why.{Why}
+use Rattle.ps_replay.proofs.Once.{replays_once}
+use Rattle.qasm_expand.specs.declared.fault.FaultName.{FaultName}
+use Rattle.qasm_expand.specs.declared.fault.ReadFault.{ReadFault}
+use Rattle.qasm_expand.specs.declared.fault.ReadFault.TheVariants.{Fault}
+use Rattle.qasm_expand.specs.Circuits.{CircuitOf}
+use Rattle.qasm_lex.specs.Places.{IsPlace}
 use Rattle.pathsum.specs.declared.answer.Answer.{Answer}
-use Rattle.pathsum.specs.declared.answer.Answer.TheVariants.{Yes, No, Stuck, Passed, Words, NotYet, Read, TooLong, Memory}
+use Rattle.pathsum.specs.declared.answer.Answer.TheVariants.{Yes, Proof, No, Stuck, Passed, Accepted, Rejected, Left, Refused, Words, Read, TooLong, Memory}
 use Rattle.pathsum.specs.declared.input.Input.{Input}
-use Rattle.pathsum.specs.Answers.{status_of, line_of, limit_words}
+use Rattle.pathsum.specs.declared.commands.Command.{Command}
+use Rattle.pathsum.specs.declared.commands.Command.TheVariants as command
+use Rattle.pathsum.specs.declared.refusals.Refusal.{Refusal}
+use Rattle.pathsum.specs.declared.refusals.Refusal.TheVariants.{Text, Separator}
+use Rattle.pathsum.specs.Commands.{IsCommand}
 use Rattle.pathsum.specs.Inputs.{bit_code}
-use Rattle.pathsum.specs.Plain.{IsOnePair, IsNoPair, SpellsPair}
+use Rattle.pathsum.specs.Splits.{IsParted}
+use Rattle.pathsum.specs.Texts.{IsReadAs, Given, both, refuses, TextsAre, first_fault, second_fault, widths, circuits}
 use Rattle.pathsum.specs.Verdicts.{Says, says_yes, says_no, says_stuck, says_passed, IsVerdict}
-use Rattle.pathsum.specs.Ended.{Judges, Deserves, Answers, IsSame, IsOfInput, Agree, IsOneAnswer}
+use Rattle.pathsum.specs.Proofs.{IsDerivation, Proves, derived, other, Echoes, accepted, rejected, left, IsReplay, Works}
+use Rattle.pathsum.specs.Ended.{Judges, lacking, refused, judged, Answers, IsOfInput, Agree, IsOneAnswer}
+use Rattle.pathsum.proofs.Splitting.{parts_once, parts_or_lacks}
+use Rattle.pathsum.proofs.Placing.{place_once}
 
 same_agree : (a : Answer) → Agree a a
-same_agree a = record { status = refl; line = refl }
+same_agree a = record { status = refl; text = refl }
+
+equal_agree : (a b : Answer) → a ≡ b → Agree a b
+equal_agree a b e = subst (λ x. Agree a x) e (same_agree a)
 
 no_agree : (n : ℕ) (i k : Input) → i.qubits ≡ n → k.qubits ≡ n → i.at ≡ k.at → Agree (No i) (No k)
 no_agree n i k e f s = record {
   status = refl;
-  line = ap (λ q. codes "no " ++ map bit_code (point q i.at) ++ 10 ∷ []) (e ∙ sym f) ∙ ap (λ b. codes "no " ++ map bit_code (point k.qubits b) ++ 10 ∷ []) s;
+  text = ap (λ q. codes "no " ++ map bit_code (point q i.at) ++ codes "\n") (e ∙ sym f) ∙ ap (λ b. codes "no " ++ map bit_code (point k.qubits b) ++ codes "\n") s;
 }
 
 stuck_agree : (S T : PathSum) → S ≡ T → Agree (Stuck S) (Stuck T)
-stuck_agree S T e = subst (λ R. Agree (Stuck S) (Stuck R)) e (same_agree (Stuck S))
+stuck_agree S T e = equal_agree (Stuck S) (Stuck T) (ap Stuck e)
 
 passed_agree : (p q : Limit) → p ≡ q → Agree (Passed p) (Passed q)
-passed_agree p q e = subst (λ r. Agree (Passed p) (Passed r)) e (same_agree (Passed p))
+passed_agree p q e = equal_agree (Passed p) (Passed q) (ap Passed e)
 
 -- ---- one finding is told in one way
 yes_not_no : {b : List ℕ} → yes ≡ no b → ⊥
@@ -81,66 +106,248 @@ says_one n f g a b e (says_passed p) (says_no q r) = absurd (no_not_limit (sym e
 says_one n f g a b e (says_passed p) says_stuck = absurd (stuck_not_limit (sym e))
 says_one n f g a b e (says_passed {e = o} {passed = x} p) (says_passed {e = u} {passed = y} q) = passed_agree x y (p ∙ ap (λ (z : Overrun). z.passed) (limit_overruns o u e) ∙ sym q)
 
--- ---- two comparisons of the same lists find the same
-finding_one : (n : ℕ) (A B : List Prim) (ss ts : List Step) (f g : Finding) → Decides n A B ss f → Decides n A B ts g → f ≡ g
-finding_one n A B ss ts f g d e =
-    let c = subst (λ o. Compares d.first o ts g) (fills_only e.second_fills d.second_fills) (subst (λ o. Compares o e.second ts g) (fills_only e.first_fills d.first_fills) e.compares) in
-    (compares_only d.compares c).found
+says_yes_only : (n : ℕ) (f : Finding) (a : Answer) → f ≡ yes → Says n f a → a ≡ Yes
+says_yes_only n f a e says_yes = refl
+says_yes_only n f a e (says_no p q) = absurd (yes_not_no (sym e))
+says_yes_only n f a e says_stuck = absurd (yes_not_stuck (sym e))
+says_yes_only n f a e (says_passed p) = absurd (yes_not_limit (sym e))
 
--- of two answers to one pair
+-- ---- two comparisons of the same lists take the same steps and find the same
+compares_one : (n : ℕ) (A B : List Prim) (o1 o2 u1 u2 : Outcome) (ss ts : List Step) (f g : Finding) → Fills n A o1 → Fills n B o2 → Compares o1 o2 ss f → Fills n A u1 → Fills n B u2 → Compares u1 u2 ts g → (ss ≡ ts) × (f ≡ g)
+compares_one n A B o1 o2 u1 u2 ss ts f g a b c d e h =
+    let k = compares_only c (subst (λ o. Compares o1 o ts g) (fills_only e b) (subst (λ o. Compares o u2 ts g) (fills_only d a) h)) in (k.steps, k.found)
+
+finding_one : (n : ℕ) (A B : List Prim) (ss ts : List Step) (f g : Finding) → Decides n A B ss f → Decides n A B ts g → f ≡ g
+finding_one n A B ss ts f g d e = (compares_one n A B d.first d.second e.first e.second ss ts f g d.first_fills d.second_fills d.compares e.first_fills e.second_fills e.compares).1
+
 verdict_one : (n : ℕ) (A B : List Prim) (a b : Answer) → IsVerdict n A B a → IsVerdict n A B b → Agree a b
 verdict_one n A B a b d e = says_one n d.finding e.finding a b (finding_one n A B d.steps e.steps d.finding e.finding d.decided e.decided) d.told e.told
 
--- an answer to the one pair that the bytes spell
-abbrev OnPair : List ℕ → Answer → Type 0
-OnPair bytes a = (n : ℕ) × (A : List Prim) × (B : List Prim) × IsOnePair bytes n A B × IsVerdict n A B a
+-- ---- derivations
+kept_moves : (S T : PathSum) (ms ns : List Move) → kept S ms ≡ kept T ns → ms ≡ ns
+kept_moves S T ms ns e = cc
 
-pair_one : (bytes : List ℕ) (a b : Answer) → OnPair bytes a → OnPair bytes b → Agree a b
-pair_one bytes a b (n, A, B, v, d) (m, C, D, w, e) =
-    let o = v.only m C D w.read in
-    verdict_one n A B a b d (subst (λ (k : ℕ). IsVerdict k A B b) o.0 (subst (λ (E : List Prim). IsVerdict m E B b) o.1 (subst (λ (E : List Prim). IsVerdict m C E b) o.2 e)))
+proof_agree : (d e : Derivation) → d.lines ≡ e.lines → Agree (Proof d) (Proof e)
+proof_agree d e h = record { status = refl; text = ap lines_text h }
 
-pair_none : (bytes : List ℕ) (a : Answer) → OnPair bytes a → IsNoPair bytes → ⊥
-pair_none bytes a (n, A, B, v, d) h = h n A B v.read
+derivation_one : (n : ℕ) (A B : List Prim) (d e : Derivation) → IsDerivation n A B d → IsDerivation n A B e → Agree (Proof d) (Proof e)
+derivation_one n A B d e x y =
+    let s = (compares_one n A B (kept x.first x.first_moves) (kept x.second x.second_moves) (kept y.first y.first_moves) (kept y.second y.second_moves) x.steps y.steps yes yes x.first_fills x.second_fills x.compares y.first_fills y.second_fills y.compares).0 in
+    let a = kept_moves x.first y.first x.first_moves y.first_moves (fills_only x.first_fills y.first_fills) in
+    let b = kept_moves x.second y.second x.second_moves y.second_moves (fills_only x.second_fills y.second_fills) in
+    proof_agree d e (x.lines ∙ ap (λ (ms : List Move). lines_by ms x.second_moves x.steps) a ∙ ap (λ (ms : List Move). lines_by y.first_moves ms x.steps) b ∙ ap (λ (ss : List Step). lines_by y.first_moves y.second_moves ss) s ∙ sym y.lines)
 
--- of two answers to bytes that were read
-data IsRead (bytes : List ℕ) : Answer → Type 0 where
-  pair : {a : Answer} → OnPair bytes a → IsRead bytes a
-  none : IsNoPair bytes → IsRead bytes NotYet
+derivation_or_other : (n : ℕ) (A B : List Prim) (d : Derivation) (a : Answer) → IsDerivation n A B d → IsVerdict n A B a → a ≢ Yes → ⊥
+derivation_or_other n A B d a x v h =
+    let k = v.decided in
+    let f = (compares_one n A B (kept x.first x.first_moves) (kept x.second x.second_moves) k.first k.second x.steps v.steps yes v.finding x.first_fills x.second_fills x.compares k.first_fills k.second_fills k.compares).1 in
+    h (says_yes_only n v.finding a (sym f) v.told)
 
-read_one : (bytes : List ℕ) (a b : Answer) → IsRead bytes a → IsRead bytes b → Agree a b
-read_one bytes a b (pair p) (pair q) = pair_one bytes a b p q
-read_one bytes a b (pair p) (none h) = absurd (pair_none bytes a p h)
-read_one bytes a b (none h) (pair q) = absurd (pair_none bytes b q h)
-read_one bytes a b (none h) (none k) = same_agree NotYet
+proves_one : (n : ℕ) (A B : List Prim) (a b : Answer) → Proves n A B a → Proves n A B b → Agree a b
+proves_one n A B a b (derived {d = d} x) (derived {d = e} y) = derivation_one n A B d e x y
+proves_one n A B a b (derived {d = d} x) (other v h) = absurd (derivation_or_other n A B d b x v h)
+proves_one n A B a b (other v h) (derived {d = d} x) = absurd (derivation_or_other n A B d a x v h)
+proves_one n A B a b (other v h) (other w k) = verdict_one n A B a b v w
+
+-- ---- replays
+accepted_not_rejected : {l : ℕ} {w : Why} → replayed.Accepted ≡ replayed.Rejected l w → ⊥
+accepted_not_rejected e = cc
+
+accepted_not_left : {S : PathSum} → replayed.Accepted ≡ replayed.Left S → ⊥
+accepted_not_left e = cc
+
+rejected_not_left : {l : ℕ} {w : Why} {S : PathSum} → replayed.Rejected l w ≡ replayed.Left S → ⊥
+rejected_not_left e = cc
+
+rejected_line : {l m : ℕ} {w v : Why} → replayed.Rejected l w ≡ replayed.Rejected m v → l ≡ m
+rejected_line e = cc
+
+rejected_why : {l m : ℕ} {w v : Why} → replayed.Rejected l w ≡ replayed.Rejected m v → w ≡ v
+rejected_why e = cc
+
+left_sum : {S T : PathSum} → replayed.Left S ≡ replayed.Left T → S ≡ T
+left_sum e = cc
+
+echoes_one : (r s : Replayed) (a b : Answer) → r ≡ s → Echoes r a → Echoes s b → Agree a b
+echoes_one r s a b e accepted accepted = same_agree Accepted
+echoes_one r s a b e accepted rejected = absurd (accepted_not_rejected e)
+echoes_one r s a b e accepted left = absurd (accepted_not_left e)
+echoes_one r s a b e rejected accepted = absurd (accepted_not_rejected (sym e))
+echoes_one r s a b e (rejected {line = l} {why = w}) (rejected {line = m} {why = v}) = equal_agree (Rejected l w) (Rejected m v) (ap (λ (x : ℕ). Rejected x w) (rejected_line e) ∙ ap (λ (x : Why). Rejected m x) (rejected_why e))
+echoes_one r s a b e rejected left = absurd (rejected_not_left e)
+echoes_one r s a b e left accepted = absurd (accepted_not_left (sym e))
+echoes_one r s a b e left rejected = absurd (rejected_not_left (sym e))
+echoes_one r s a b e (left {S = S}) (left {S = T}) = equal_agree (Left S) (Left T) (ap Left (left_sum e))
+
+replay_one : (n : ℕ) (A B : List Prim) (d : List ℕ) (a b : Answer) → IsReplay n A B d a → IsReplay n A B d b → Agree a b
+replay_one n A B d a b x y = echoes_one x.replayed y.replayed a b (replays_once x.replays y.replays) x.told y.told
+
+works_one : (c : Command) (n : ℕ) (A B : List Prim) (d : List ℕ) (a b : Answer) → Works c n A B d a → Works c n A B d b → Agree a b
+works_one command.Same n A B d a b x y = verdict_one n A B a b x y
+works_one command.Prove n A B d a b x y = proves_one n A B a b x y
+works_one command.Replay n A B d a b x y = replay_one n A B d a b x y
+
+-- ---- two texts are read as one thing
+abbrev ok_of : CircuitOf → Result CircuitOf ReadFault
+ok_of c = Ok c
+
+abbrev err_of : FaultName → ℕ → Result CircuitOf ReadFault
+err_of n i = Err (Fault n i)
+
+ok_not_err : {c : CircuitOf} {n : FaultName} {i : ℕ} → ok_of c ≡ err_of n i → ⊥
+ok_not_err e = cc
+
+same_circuit : {c d : CircuitOf} → ok_of c ≡ ok_of d → c ≡ d
+same_circuit e = cc
+
+same_name : {n m : FaultName} {i k : ℕ} → err_of n i ≡ err_of m k → n ≡ m
+same_name e = cc
+
+same_at : {n m : FaultName} {i k : ℕ} → err_of n i ≡ err_of m k → i ≡ k
+same_at e = cc
+
+fault_given : (s : ℕ) {n m : FaultName} {i k : ℕ} → err_of n i ≡ err_of m k → refuses (Text n) (s + i) ≡ refuses (Text m) (s + k)
+fault_given s {n} {m} {i} {k} e = ap (λ (x : FaultName). refuses (Text x) (s + i)) (same_name e) ∙ ap (λ (x : ℕ). refuses (Text m) (s + x)) (same_at e)
+
+first_given : {n m : FaultName} {i k : ℕ} → err_of n i ≡ err_of m k → refuses (Text n) i ≡ refuses (Text m) k
+first_given {n} {m} {i} {k} e = ap (λ (x : FaultName). refuses (Text x) i) (same_name e) ∙ ap (λ (x : ℕ). refuses (Text m) x) (same_at e)
+
+both_given : {c d c' d' : CircuitOf} → c ≡ c' → d ≡ d' → both c.qubits (run_of c.items) (run_of d.items) ≡ both c'.qubits (run_of c'.items) (run_of d'.items)
+both_given {c} {d} {c'} {d'} e f = ap (λ (x : CircuitOf). both x.qubits (run_of x.items) (run_of d.items)) e ∙ ap (λ (x : CircuitOf). both c'.qubits (run_of c'.items) (run_of x.items)) f
+
+differ_or_agree : {c d c' d' : CircuitOf} → c ≡ c' → d ≡ d' → c.qubits ≢ d.qubits → c'.qubits ≡ d'.qubits → ⊥
+differ_or_agree e f h k = h (ap (λ (x : CircuitOf). x.qubits) e ∙ k ∙ sym (ap (λ (x : CircuitOf). x.qubits) f))
+
+read_one : {text : List ℕ} {r s : Result CircuitOf ReadFault} → IsReadAs text r → IsReadAs text s → r ≡ s
+read_one {r = r} a b = b.only r a.reads
+
+texts_one : (a b : List ℕ) (s : ℕ) (g h : Given) → TextsAre a b s g → TextsAre a b s h → g ≡ h
+texts_one a b s g h (first_fault x) (first_fault y) = first_given (read_one x y)
+texts_one a b s g h (first_fault x) (second_fault y z) = absurd (ok_not_err (read_one y x))
+texts_one a b s g h (first_fault x) (widths y z k) = absurd (ok_not_err (read_one y x))
+texts_one a b s g h (first_fault x) (circuits y z k) = absurd (ok_not_err (read_one y x))
+texts_one a b s g h (second_fault x y) (first_fault z) = absurd (ok_not_err (read_one x z))
+texts_one a b s g h (second_fault x y) (second_fault z w) = fault_given s (read_one y w)
+texts_one a b s g h (second_fault x y) (widths z w k) = absurd (ok_not_err (read_one w y))
+texts_one a b s g h (second_fault x y) (circuits z w k) = absurd (ok_not_err (read_one w y))
+texts_one a b s g h (widths x y k) (first_fault z) = absurd (ok_not_err (read_one x z))
+texts_one a b s g h (widths x y k) (second_fault z w) = absurd (ok_not_err (read_one y w))
+texts_one a b s g h (widths x y k) (widths z w l) = refl
+texts_one a b s g h (widths x y k) (circuits z w l) = absurd (differ_or_agree (same_circuit (read_one x z)) (same_circuit (read_one y w)) k l)
+texts_one a b s g h (circuits x y k) (first_fault z) = absurd (ok_not_err (read_one x z))
+texts_one a b s g h (circuits x y k) (second_fault z w) = absurd (ok_not_err (read_one y w))
+texts_one a b s g h (circuits x y k) (widths z w l) = absurd (differ_or_agree (same_circuit (read_one z x)) (same_circuit (read_one w y)) l k)
+texts_one a b s g h (circuits x y k) (circuits z w l) = both_given (same_circuit (read_one x z)) (same_circuit (read_one y w))
+
+-- ---- an input is answered in one way
+refused_agree : (why why' : Refusal) (line column line' column' : ℕ) → why ≡ why' → line ≡ line' → column ≡ column' → Agree (Refused why line column) (Refused why' line' column')
+refused_agree why why' line column line' column' e f g = equal_agree (Refused why line column) (Refused why' line' column') (ap (λ (x : Refusal). Refused x line column) e ∙ ap (λ (x : ℕ). Refused why' x column) f ∙ ap (λ (x : ℕ). Refused why' line' x) g)
+
+placed_agree : (bytes : List ℕ) (why why' : Refusal) (at at' line column line' column' : ℕ) → why ≡ why' → at ≡ at' → IsPlace bytes at line column → IsPlace bytes at' line' column' → Agree (Refused why line column) (Refused why' line' column')
+placed_agree bytes why why' at at' line column line' column' e f p q =
+    let o = place_once bytes at' line column line' column' (subst (λ (i : ℕ). IsPlace bytes i line column) f p) q in
+    refused_agree why why' line column line' column' e o.line_is o.column_is
+
+both_not_refuses : {n : ℕ} {A B : List Prim} {w : Refusal} {i : ℕ} → both n A B ≡ refuses w i → ⊥
+both_not_refuses e = cc
+
+refuses_why : {w v : Refusal} {i k : ℕ} → refuses w i ≡ refuses v k → w ≡ v
+refuses_why e = cc
+
+refuses_at : {w v : Refusal} {i k : ℕ} → refuses w i ≡ refuses v k → i ≡ k
+refuses_at e = cc
+
+both_n : {n m : ℕ} {A B C D : List Prim} → both n A B ≡ both m C D → n ≡ m
+both_n e = cc
+
+both_first : {n m : ℕ} {A B C D : List Prim} → both n A B ≡ both m C D → A ≡ C
+both_first e = cc
+
+both_second : {n m : ℕ} {A B C D : List Prim} → both n A B ≡ both m C D → B ≡ D
+both_second e = cc
+
+-- two ways to part the input and to read the texts
+given_one : (c : Command) (bytes a b d a' b' d' : List ℕ) (s s' : ℕ) (g h : Given) → IsParted c bytes a b s d → IsParted c bytes a' b' s' d' → TextsAre a b s g → TextsAre a' b' s' h → g ≡ h
+given_one c bytes a b d a' b' d' s s' g h p q x y =
+    let o = parts_once c bytes a b d s a' b' d' s' p q in
+    texts_one a' b' s' g h (subst (λ (k : ℕ). TextsAre a' b' k g) o.start (subst (λ (k : List ℕ). TextsAre a' k s g) o.second (subst (λ (k : List ℕ). TextsAre k b s g) o.first x))) y
+
+works_moved : (c : Command) (n m : ℕ) (A B C D : List Prim) (d d' : List ℕ) (a : Answer) → n ≡ m → A ≡ C → B ≡ D → d ≡ d' → Works c n A B d a → Works c m C D d' a
+works_moved c n m A B C D d d' a e f g h w = subst (λ (k : List ℕ). Works c m C D k a) h (subst (λ (k : List Prim). Works c m C k d a) g (subst (λ (k : List Prim). Works c m k B d a) f (subst (λ (k : ℕ). Works c k A B d a) e w)))
+
+judges_one : (c : Command) (bytes : List ℕ) (x y : Answer) → Judges c bytes x → Judges c bytes y → Agree x y
+judges_one c bytes x y (lacking {line = l} {column = k} h p) (lacking {line = l'} {column = k'} h' p') = placed_agree bytes Separator Separator (length bytes) (length bytes) l k l' k' refl refl p p'
+judges_one c bytes x y (lacking h p) (refused a b d s i q t r) = absurd (parts_or_lacks c bytes a b d s q h)
+judges_one c bytes x y (lacking h p) (judged a b d s n A B q t w) = absurd (parts_or_lacks c bytes a b d s q h)
+judges_one c bytes x y (refused a b d s i q t r) (lacking h p) = absurd (parts_or_lacks c bytes a b d s q h)
+judges_one c bytes x y (refused a b d s i {why = w} {line = l} {column = k} q t r) (refused a' b' d' s' i' {why = w'} {line = l'} {column = k'} q' t' r') =
+    let e = given_one c bytes a b d a' b' d' s s' (refuses w i) (refuses w' i') q q' t t' in
+    placed_agree bytes w w' i i' l k l' k' (refuses_why e) (refuses_at e) r r'
+judges_one c bytes x y (refused a b d s i {why = w} q t r) (judged a' b' d' s' n A B q' t' v) =
+    absurd (both_not_refuses (given_one c bytes a' b' d' a b d s' s (both n A B) (refuses w i) q' q t' t))
+judges_one c bytes x y (judged a b d s n A B q t w) (lacking h p) = absurd (parts_or_lacks c bytes a b d s q h)
+judges_one c bytes x y (judged a' b' d' s' n A B q' t' v) (refused a b d s i {why = w} q t r) =
+    absurd (both_not_refuses (given_one c bytes a' b' d' a b d s' s (both n A B) (refuses w i) q' q t' t))
+judges_one c bytes x y (judged a b d s n A B q t w) (judged a' b' d' s' n' A' B' q' t' w') =
+    let e = given_one c bytes a b d a' b' d' s s' (both n A B) (both n' A' B') q q' t t' in
+    let o = parts_once c bytes a b d s a' b' d' s' q q' in
+    works_one c n' A' B' d' x y (works_moved c n n' A B A' B' d d' x (both_n e) (both_first e) (both_second e) o.document w) w'
+
+-- ---- words
+same_not_prove : codes "same" ∷ [] ≡ codes "prove" ∷ [] → ⊥
+same_not_prove e = cc
+
+same_not_replay : codes "same" ∷ [] ≡ codes "replay" ∷ [] → ⊥
+same_not_replay e = cc
+
+prove_not_replay : codes "prove" ∷ [] ≡ codes "replay" ∷ [] → ⊥
+prove_not_replay e = cc
+
+command_one : (words : List (List ℕ)) (c d : Command) → IsCommand c words → IsCommand d words → c ≡ d
+command_one words command.Same command.Same e f = refl
+command_one words command.Same command.Prove e f = absurd (same_not_prove (sym e ∙ f))
+command_one words command.Same command.Replay e f = absurd (same_not_replay (sym e ∙ f))
+command_one words command.Prove command.Same e f = absurd (same_not_prove (sym f ∙ e))
+command_one words command.Prove command.Prove e f = refl
+command_one words command.Prove command.Replay e f = absurd (prove_not_replay (sym e ∙ f))
+command_one words command.Replay command.Same e f = absurd (same_not_replay (sym f ∙ e))
+command_one words command.Replay command.Prove e f = absurd (prove_not_replay (sym f ∙ e))
+command_one words command.Replay command.Replay e f = refl
 
 -- what an answer is: to wrong words, to a long input, or to what was read
 data Kind (words : List (List ℕ)) (bytes : List ℕ) : Answer → Type 0 where
-  wrong : ¬ (IsSame words) → Kind words bytes Words
-  long : IsSame words → 16777216 < length bytes → Kind words bytes TooLong
-  read : {a : Answer} → IsSame words → length bytes ≤ 16777216 → IsRead bytes a → Kind words bytes a
+  wrong : ((c : Command) → ¬ (IsCommand c words)) → Kind words bytes Words
+  long : (c : Command) → IsCommand c words → 16777216 < length bytes → Kind words bytes TooLong
+  read : (c : Command) {a : Answer} → IsCommand c words → length bytes ≤ 16777216 → Judges c bytes a → Kind words bytes a
+
+read_kind : (words : List (List ℕ)) (bytes : List ℕ) (c : Command) (a : Answer) → IsCommand c words → (length bytes ≤ 16777216) × Judges c bytes a → Kind words bytes a
+read_kind words bytes c a w d = read c w d.0 d.1
 
 kind_of : (words : List (List ℕ)) (bytes : List ℕ) (s s' : ℕ) (a : Answer) → Answers words (Some bytes) s s' a → IsOfInput a → Kind words bytes a
-kind_of words bytes s s' Yes d i = read d.0 d.1.0 (pair d.1.1)
-kind_of words bytes s s' (No k) d i = read d.0 d.1.0 (pair d.1.1)
-kind_of words bytes s s' (Stuck c) d i = read d.0 d.1.0 (pair d.1.1)
-kind_of words bytes s s' (Passed c) d i = read d.0 d.1.0 (pair d.1.1)
-kind_of words bytes s s' NotYet d i = read d.0 d.1.0 (none d.1.1)
+kind_of words bytes s s' Yes d i = read_kind words bytes d.command Yes d.is d.deserves
+kind_of words bytes s s' (Proof k) d i = read_kind words bytes d.command (Proof k) d.is d.deserves
+kind_of words bytes s s' (No k) d i = read_kind words bytes d.command (No k) d.is d.deserves
+kind_of words bytes s s' (Stuck k) d i = read_kind words bytes d.command (Stuck k) d.is d.deserves
+kind_of words bytes s s' (Passed k) d i = read_kind words bytes d.command (Passed k) d.is d.deserves
+kind_of words bytes s s' Accepted d i = read_kind words bytes d.command Accepted d.is d.deserves
+kind_of words bytes s s' (Rejected l w) d i = read_kind words bytes d.command (Rejected l w) d.is d.deserves
+kind_of words bytes s s' (Left k) d i = read_kind words bytes d.command (Left k) d.is d.deserves
+kind_of words bytes s s' (Refused w l k) d i = read_kind words bytes d.command (Refused w l k) d.is d.deserves
 kind_of words bytes s s' Words d i = wrong d
-kind_of words bytes s s' TooLong d i = long d.0 d.1
+kind_of words bytes s s' TooLong d i = long d.command d.is d.deserves
 kind_of words bytes s s' Read d i = absurd i
 kind_of words bytes s s' Memory d i = absurd i
 
 kind_one : (words : List (List ℕ)) (bytes : List ℕ) (a b : Answer) → Kind words bytes a → Kind words bytes b → Agree a b
 kind_one words bytes a b (wrong h) (wrong k) = same_agree Words
-kind_one words bytes a b (wrong h) (long w l) = absurd (h w)
-kind_one words bytes a b (wrong h) (read w l r) = absurd (h w)
-kind_one words bytes a b (long w l) (wrong k) = absurd (k w)
-kind_one words bytes a b (long w l) (long v m) = same_agree TooLong
-kind_one words bytes a b (long w l) (read v m r) = absurd (omega (arith, l, m))
-kind_one words bytes a b (read w l r) (wrong k) = absurd (k w)
-kind_one words bytes a b (read w l r) (long v m) = absurd (omega (arith, l, m))
-kind_one words bytes a b (read w l r) (read v m q) = read_one bytes a b r q
+kind_one words bytes a b (wrong h) (long c w l) = absurd (h c w)
+kind_one words bytes a b (wrong h) (read c w l r) = absurd (h c w)
+kind_one words bytes a b (long c w l) (wrong k) = absurd (k c w)
+kind_one words bytes a b (long c w l) (long d v m) = same_agree TooLong
+kind_one words bytes a b (long c w l) (read d v m r) = absurd (omega (arith, l, m))
+kind_one words bytes a b (read c w l r) (wrong k) = absurd (k c w)
+kind_one words bytes a b (read c w l r) (long d v m) = absurd (omega (arith, l, m))
+kind_one words bytes a b (read c w l r) (read d v m q) = judges_one d bytes a b (subst (λ (k : Command). Judges k bytes a) (command_one words c d w v) r) q
 
 pub one_answer : (words : List (List ℕ)) (told : Option (List ℕ)) → IsOneAnswer words told
 one_answer words None = tt

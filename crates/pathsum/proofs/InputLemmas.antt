@@ -1,9 +1,8 @@
 -- The digits of a basis input.
-use Rattle.std.proofs.Common.{◌≡◌, ℕ, zero, suc, ◌+◌, refl, ap, ap₂, sym, ◌∙◌, arith, Bool, true, false, List, [], ◌∷◌, ◌++◌, map, codes, append_assoc}
+use Rattle.std.proofs.Common.{◌≡◌, ℕ, zero, suc, ◌+◌, refl, ap, ap₂, sym, ◌∙◌, arith, Bool, List, [], ◌∷◌, ◌++◌, map}
 use Rattle.ps_mono.specs.Sets.{stands}
 use Rattle.ps_ring.specs.Truths.{Truths}
 use Rattle.ps_ring.specs.Readings.{taken}
-use Rattle.ps_overlap.specs.Overlapping.{point}
 use Rattle.pathsum.specs.Inputs.{bit_code}
 
 -- for each of the n variables from v on, whether it stands in m

@@ -1,31 +1,87 @@
--- From the answer to two lists of prims to the answer of a call.
-use Rattle.std.proofs.Common.{◌≡◌, ℕ, refl, ap, sym, ◌∙◌, ◌<◌, ◌≤◌, Option, Some, None, List, [], ◌∷◌, ◌++◌, length, subst, ◌⊎◌, inl, inr, append-nil, get_or, map, arith, Bool, true}
+-- From what is found of two texts to the answer of a call.
+use Rattle.std.proofs.Common.{◌≡◌, ◌≢◌, ℕ, zero, suc, min, refl, ap, sym, ◌∙◌, ◌+◌, ◌-◌, ◌≤◌, Option, Some, None, List, [], ◌∷◌, ◌++◌, length, subst, ◌⊎◌, inl, inr, append-nil, get_or, map, arith, Bool, true, Result, Ok, Err}
+use Rattle.std.proofs.Math.Nat.{min-eq_left, min-eq_right, min-le_left}
 use Rattle.std.specs.Str.{bytes_eq}
 use Rattle.std.proofs.lemmas.Slice.Eq.{bytes_eq-Decides}
 use Rattle.std.specs.Io.KnownBytes.{prepend_known, IsAtEnd}
 use Rattle.std.specs.Prelude.{IfSome}
 use Rattle.ps_prim.specs.declared.prims.Primitive.{Primitive as Prim}
-use Rattle.pathsum.specs.declared.answer.Answer.{Answer}
-use Rattle.pathsum.specs.declared.answer.Answer.TheVariants.{Yes, No, Stuck, Passed, Words, NotYet, Read, TooLong, Memory}
-use Rattle.pathsum.specs.Answers.{status_of, line_of}
 use Rattle.ps_reach.specs.Findings.{Finding}
-use Rattle.pathsum.specs.Plain.{IsOnePair}
-use Rattle.pathsum.specs.Verdicts.{IsVerdict, Says}
-use Rattle.pathsum.specs.Ended.{Judges, Deserves, Answers, IsSame, Ends, Writes}
+use Rattle.ps_reach.specs.Runs.{run_of}
+use Rattle.ps_replay.specs.declared.replayed.Replayed.{Replayed}
+use Rattle.qasm_lex.specs.Places.{IsPlace}
+use Rattle.qasm_expand.specs.declared.fault.FaultName.{FaultName}
+use Rattle.qasm_expand.specs.declared.fault.ReadFault.{ReadFault}
+use Rattle.qasm_expand.specs.declared.fault.ReadFault.TheVariants.{Fault}
+use Rattle.qasm_expand.specs.Circuits.{CircuitOf, ReadsText}
+use Rattle.qasm_expand.specs.Reading.{CircuitTold}
+use Rattle.pathsum.specs.declared.pair.Pair.{Pair}
+use Rattle.pathsum.specs.declared.pair.TwoTexts.{TwoTexts}
+use Rattle.pathsum.specs.declared.pair.TwoTexts.TheVariants.{Both, Refuses}
+use Rattle.pathsum.specs.declared.answer.Answer.{Answer}
+use Rattle.pathsum.specs.declared.answer.Answer.TheVariants.{Yes, Proof, No, Stuck, Passed, Accepted, Rejected, Left, Refused, Words, Read, TooLong, Memory}
+use Rattle.pathsum.specs.declared.commands.Command.{Command}
+use Rattle.pathsum.specs.declared.commands.Command.TheVariants as command
+use Rattle.pathsum.specs.declared.refusals.Refusal.{Refusal}
+use Rattle.pathsum.specs.declared.refusals.Refusal.TheVariants.{Separator, Text, Widths}
+use Rattle.pathsum.specs.Answers.{status_of, text_of}
+use Rattle.pathsum.specs.Commands.{IsCommand}
+use Rattle.pathsum.specs.Splits.{IsParted, Lacks}
+use Rattle.pathsum.specs.Texts.{IsReadAs, Given, both, refuses, TextsAre, first_fault, second_fault, widths, circuits}
+use Rattle.pathsum.specs.Givens.{given_in, IsNear, OfCircuits, differ, agree}
+use Rattle.pathsum.specs.Verdicts.{Says, says_yes, says_no, says_stuck, says_passed}
+use Rattle.pathsum.specs.Proofs.{Proves, derived, other, Echoes, accepted, rejected, left, Works}
+use Rattle.pathsum.specs.Ended.{Judges, lacking, refused, judged, Deserves, Answers, Ends, Writes}
+use Rattle.pathsum.specs.Judgements.{Judged, IsRefusal}
+use Rattle.pathsum.proofs.Placing.{place_beyond}
 
-pub judges_pair : (bytes : List ℕ) (n : ℕ) (A B : List Prim) (answer : Answer) → IsOnePair bytes n A B → IsVerdict n A B answer → Judges bytes answer
-judges_pair bytes n A B Yes r d = (n, A, B, r, d)
-judges_pair bytes n A B (No input) r d = (n, A, B, r, d)
-judges_pair bytes n A B (Stuck sum) r d = (n, A, B, r, d)
-judges_pair bytes n A B (Passed limit) r d = (n, A, B, r, d)
-judges_pair bytes n A B Words r d = (n, A, B, r, d)
-judges_pair bytes n A B NotYet r d = absurd (never d.told)
-  where
-    never : {f : Finding} → Says n f NotYet → ⊥
-    never s = elim s [ ]
-judges_pair bytes n A B Read r d = (n, A, B, r, d)
-judges_pair bytes n A B TooLong r d = (n, A, B, r, d)
-judges_pair bytes n A B Memory r d = tt
+-- what may be answered of bytes that were read
+abbrev IsJudgement : Answer → Type 0
+IsJudgement Words = ⊥
+IsJudgement Read = ⊥
+IsJudgement TooLong = ⊥
+IsJudgement Memory = ⊥
+IsJudgement answer = Unit {0}
+
+says_judgement : {n : ℕ} {f : Finding} {a : Answer} → Says n f a → IsJudgement a
+says_judgement says_yes = tt
+says_judgement (says_no p q) = tt
+says_judgement says_stuck = tt
+says_judgement (says_passed p) = tt
+
+proves_judgement : {n : ℕ} {A B : List Prim} {a : Answer} → Proves n A B a → IsJudgement a
+proves_judgement (derived d) = tt
+proves_judgement (other v h) = says_judgement v.told
+
+echoes_judgement : {r : Replayed} {a : Answer} → Echoes r a → IsJudgement a
+echoes_judgement accepted = tt
+echoes_judgement rejected = tt
+echoes_judgement left = tt
+
+works_judgement : (c : Command) (n : ℕ) (A B : List Prim) (d : List ℕ) (a : Answer) → Works c n A B d a → IsJudgement a
+works_judgement command.Same n A B d a w = says_judgement w.told
+works_judgement command.Prove n A B d a w = proves_judgement w
+works_judgement command.Replay n A B d a w = echoes_judgement w.told
+
+judges_judgement : (c : Command) (bytes : List ℕ) (a : Answer) → Judges c bytes a → IsJudgement a
+judges_judgement c bytes a (lacking h p) = tt
+judges_judgement c bytes a (refused x y d s at p t q) = tt
+judges_judgement c bytes a (judged x y d s n A B p t w) = works_judgement c n A B d a w
+
+deserves_of : (c : Command) (told : Option (List ℕ)) (old new : ℕ) (a : Answer) → IsJudgement a → IfSome told (λ bytes. (length bytes ≤ 16777216) × Judges c bytes a) → Deserves c told old new a
+deserves_of c told old new Yes i d = d
+deserves_of c told old new (Proof k) i d = d
+deserves_of c told old new (No k) i d = d
+deserves_of c told old new (Stuck k) i d = d
+deserves_of c told old new (Passed k) i d = d
+deserves_of c told old new Accepted i d = d
+deserves_of c told old new (Rejected l w) i d = d
+deserves_of c told old new (Left k) i d = d
+deserves_of c told old new (Refused w l k) i d = d
+deserves_of c told old new Words i d = absurd i
+deserves_of c told old new Read i d = absurd i
+deserves_of c told old new TooLong i d = absurd i
+deserves_of c told old new Memory i d = absurd i
 
 -- what holds of the bytes that were read holds of all that the source told
 told_bytes : (P : List ℕ → Type 0) (told after : Option (List ℕ)) (items : List ℕ) → told ≡ prepend_known items after → IsAtEnd after → P items → IfSome told P
@@ -35,56 +91,40 @@ told_bytes P told after items e a p = subst (λ (o : Option (List ℕ)). IfSome 
     by None a = tt
     by (Some xs) a = subst P (sym (ap (λ (r : List ℕ). items ++ r) a ∙ append-nil items)) p
 
-no_words : {n : ℕ} {f : Finding} → Says n f Words → ⊥
-no_words s = elim s [ ]
-
-no_read : {n : ℕ} {f : Finding} → Says n f Read → ⊥
-no_read s = elim s [ ]
-
-no_toolong : {n : ℕ} {f : Finding} → Says n f TooLong → ⊥
-no_toolong s = elim s [ ]
-
 -- the answer to the bytes is that of the call
-pub deserves_judged : (told after : Option (List ℕ)) (items : List ℕ) (old new : ℕ) (answer : Answer) → told ≡ prepend_known items after → IsAtEnd after → length items ≤ 16777216 → Judges items answer → Deserves told old new answer
-deserves_judged told after items old new Yes e a l j = told_bytes (λ bytes. (length bytes ≤ 16777216) × Judges bytes Yes) told after items e a (l, j)
-deserves_judged told after items old new (No input) e a l j = told_bytes (λ bytes. (length bytes ≤ 16777216) × Judges bytes (No input)) told after items e a (l, j)
-deserves_judged told after items old new (Stuck sum) e a l j = told_bytes (λ bytes. (length bytes ≤ 16777216) × Judges bytes (Stuck sum)) told after items e a (l, j)
-deserves_judged told after items old new (Passed limit) e a l j = told_bytes (λ bytes. (length bytes ≤ 16777216) × Judges bytes (Passed limit)) told after items e a (l, j)
-deserves_judged told after items old new NotYet e a l j = told_bytes (λ bytes. (length bytes ≤ 16777216) × Judges bytes NotYet) told after items e a (l, j)
-deserves_judged told after items old new Words e a l (n, A, B, r, d) = absurd (no_words d.told)
-deserves_judged told after items old new Read e a l (n, A, B, r, d) = absurd (no_read d.told)
-deserves_judged told after items old new TooLong e a l (n, A, B, r, d) = absurd (no_toolong d.told)
-deserves_judged told after items old new Memory e a l j = tt
+pub deserves_judged : (c : Command) (told after : Option (List ℕ)) (items : List ℕ) (old new : ℕ) (answer : Answer) → told ≡ prepend_known items after → IsAtEnd after → length items ≤ 16777216 → Judged c items answer → Deserves c told old new answer
+deserves_judged c told after items old new answer e a l (inl m) = subst (Deserves c told old new) (sym m) tt
+deserves_judged c told after items old new answer e a l (inr j) = deserves_of c told old new answer (judges_judgement c items answer j) (told_bytes (λ bytes. (length bytes ≤ 16777216) × Judges c bytes answer) told after items e a (l, j))
 
 -- what `print` did ends the call
 pub printed : (claims : Answer → Type 0) (old new : Option (List ℕ)) (f f' : ℕ) (status : ℕ) (answer : Answer) → claims answer → claims Memory
-    → (Writes old new f f' (line_of answer) (status_of answer) status) ⊎ (Writes old new f f' (line_of Memory) 70 status) → Ends claims old new f f' status
+    → (Writes old new f f' (text_of answer) (status_of answer) status) ⊎ (Writes old new f f' (text_of Memory) 70 status) → Ends claims old new f f' status
 printed claims old new f f' status answer c m (inl w) = record { answer = answer; claimed = c; written = w }
 printed claims old new f f' status answer c m (inr w) = record { answer = Memory; claimed = m; written = w }
 
--- the call with the word `same`
-pub same_ends : (words : List (List ℕ)) (told old new : Option (List ℕ)) (s s' f f' : ℕ) (status : ℕ) → IsSame words → Ends (Deserves told s s') old new f f' status → Ends (Answers words told s s') old new f f' status
-same_ends words told old new s s' f f' status w e = record { answer = e.answer; claimed = answers e.answer e.claimed; written = e.written }
-  where
-    answers : (answer : Answer) → Deserves told s s' answer → Answers words told s s' answer
-    answers Yes d = (w, d)
-    answers (No input) d = (w, d)
-    answers (Stuck sum) d = (w, d)
-    answers (Passed limit) d = (w, d)
-    answers NotYet d = (w, d)
-    answers Words d = absurd d
-    answers Read d = (w, d)
-    answers TooLong d = (w, d)
-    answers Memory d = tt
+answers_of : (c : Command) (words : List (List ℕ)) (told : Option (List ℕ)) (s s' : ℕ) (answer : Answer) → IsCommand c words → Deserves c told s s' answer → Answers words told s s' answer
+answers_of c words told s s' Yes w d = record { command = c; is = w; deserves = d }
+answers_of c words told s s' (Proof k) w d = record { command = c; is = w; deserves = d }
+answers_of c words told s s' (No k) w d = record { command = c; is = w; deserves = d }
+answers_of c words told s s' (Stuck k) w d = record { command = c; is = w; deserves = d }
+answers_of c words told s s' (Passed k) w d = record { command = c; is = w; deserves = d }
+answers_of c words told s s' Accepted w d = record { command = c; is = w; deserves = d }
+answers_of c words told s s' (Rejected l y) w d = record { command = c; is = w; deserves = d }
+answers_of c words told s s' (Left k) w d = record { command = c; is = w; deserves = d }
+answers_of c words told s s' (Refused y l k) w d = record { command = c; is = w; deserves = d }
+answers_of c words told s s' Words w d = absurd d
+answers_of c words told s s' Read w d = record { command = c; is = w; deserves = d }
+answers_of c words told s s' TooLong w d = record { command = c; is = w; deserves = d }
+answers_of c words told s s' Memory w d = tt
+
+-- the call with the word of a command
+pub command_ends : (c : Command) (words : List (List ℕ)) (told old new : Option (List ℕ)) (s s' f f' : ℕ) (status : ℕ) → IsCommand c words → Ends (Deserves c told s s') old new f f' status → Ends (Answers words told s s') old new f f' status
+command_ends c words told old new s s' f f' status w e = record { answer = e.answer; claimed = answers_of c words told s s' e.answer w e.claimed; written = e.written }
 
 -- the call with other words
-pub words_end : (words : List (List ℕ)) (told old new : Option (List ℕ)) (s s' f f' : ℕ) (status : ℕ) → ¬ (IsSame words)
-    → (Writes old new f f' (line_of Words) 64 status) ⊎ (Writes old new f f' (line_of Memory) 70 status) → Ends (Answers words told s s') old new f f' status
+pub words_end : (words : List (List ℕ)) (told old new : Option (List ℕ)) (s s' f f' : ℕ) (status : ℕ) → ((c : Command) → ¬ (IsCommand c words))
+    → (Writes old new f f' (text_of Words) 64 status) ⊎ (Writes old new f f' (text_of Memory) 70 status) → Ends (Answers words told s s') old new f f' status
 words_end words told old new s s' f f' status w e = printed (Answers words told s s') old new f f' status Words w tt e
-
--- the lists behind two slices
-pub verdict_lists : (n : ℕ) (A A' B B' : List Prim) (answer : Answer) → A ≡ A' → B ≡ B' → IsVerdict n A B answer → IsVerdict n A' B' answer
-verdict_lists n A A' B B' answer a b d = subst (λ (C : List Prim). IsVerdict n A' C answer) b (subst (λ (C : List Prim). IsVerdict n C B answer) a d)
 
 one_word : {X : Type 0} (f : X → List ℕ) (ws : List X) (w : X) → length ws ≡ 1 → w ≡ get_or ws 0 w → map f ws ≡ f w ∷ []
 one_word f [] w l e = absurd (omega arith)
@@ -102,3 +142,79 @@ one_decides f ws w t text r l e s d =
   where
     head : {x y : List ℕ} → x ∷ [] ≡ y ∷ [] → x ≡ y
     head e = cc
+
+pub no_command : (words : List (List ℕ)) → (IsCommand command.Same words → ⊥) → (IsCommand command.Prove words → ⊥) → (IsCommand command.Replay words → ⊥) → (c : Command) → ¬ (IsCommand c words)
+no_command words f g h command.Same = f
+no_command words f g h command.Prove = g
+no_command words f g h command.Replay = h
+
+-- ---- refusals
+near_or_far : (x y : ℕ) → (x ≤ y) ⊎ (y ≤ x)
+near_or_far zero y = inl (omega arith)
+near_or_far (suc x) zero = inr (omega arith)
+near_or_far (suc x) (suc y) = up (near_or_far x y)
+  where
+    up : (x ≤ y) ⊎ (y ≤ x) → (suc x ≤ suc y) ⊎ (suc y ≤ suc x)
+    up (inl l) = inl (omega (arith, l))
+    up (inr l) = inr (omega (arith, l))
+
+pub refusal_at : (bytes : List ℕ) (why : Refusal) (at inside line column column' : ℕ) → inside ≡ min at (length bytes) → column' ≡ column + (at - inside) → IsPlace bytes inside line column → IsRefusal bytes why at (Refused why line column')
+refusal_at bytes why at inside line column column' e f p = record { line = line; column = column'; place = by (near_or_far at (length bytes)); told = refl }
+  where
+    by : (at ≤ length bytes) ⊎ (length bytes ≤ at) → IsPlace bytes at line column'
+    by (inl l) =
+        let k : inside ≡ at = e ∙ min-eq_left l in
+        let m : column' ≡ column = omega (arith, f, k) in
+        subst (λ (i : ℕ). IsPlace bytes at line i) (sym m) (subst (λ (i : ℕ). IsPlace bytes i line column) k p)
+    by (inr l) =
+        let k : inside ≡ length bytes = e ∙ min-eq_right l in
+        let m : column' ≡ column + (at - length bytes) = f ∙ ap (λ i. column + (at - i)) k in
+        subst (λ (i : ℕ). IsPlace bytes at line i) (sym m) (place_beyond bytes at line column l (subst (λ (i : ℕ). IsPlace bytes i line column) k p))
+
+-- the column of a place is near
+pub column_near : (bytes : List ℕ) (at inside line column : ℕ) → at ≤ 8589934591 → inside ≡ min at (length bytes) → IsPlace bytes inside line column → column + (at - inside) ≤ 8589934592
+column_near bytes at inside line column h e p = let k : inside ≤ at = subst (λ (i : ℕ). i ≤ at) (sym e) (min-le_left at (length bytes)) in let m = p.cell.2 in omega (arith, h, k, m)
+
+pub lacks_judged : (c : Command) (bytes : List ℕ) (at : ℕ) (answer : Answer) → at ≡ length bytes → Lacks c bytes → IsRefusal bytes Separator at answer → Judged c bytes answer
+lacks_judged c bytes at answer e h r = inr (subst (Judges c bytes) (sym r.told) (lacking {line = r.line} {column = r.column} h (subst (λ (k : ℕ). IsPlace bytes k r.line r.column) e r.place)))
+
+pub refused_judged : (c : Command) (bytes a b d : List ℕ) (start at : ℕ) (why : Refusal) (answer : Answer) → IsParted c bytes a b start d → TextsAre a b start (refuses why at) → IsRefusal bytes why at answer → Judged c bytes answer
+refused_judged c bytes a b d start at why answer p t r = inr (subst (Judges c bytes) (sym r.told) (refused a b d start at {why = why} {line = r.line} {column = r.column} p t r.place))
+
+pub work_judged : (c : Command) (bytes a b d : List ℕ) (start n : ℕ) (A B : List Prim) (answer : Answer) → IsParted c bytes a b start d → TextsAre a b start (both n A B) → Works c n A B d answer → Judged c bytes answer
+work_judged c bytes a b d start n A B answer p t w = inr (judged a b d start n A B p t w)
+
+-- ---- texts
+pub first_told : (a b : List ℕ) (start : ℕ) (name : FaultName) (at : ℕ) (g : Given) → IsReadAs a (Err (Fault name at)) → g ≡ refuses (Text name) (0 + at) → TextsAre a b start g
+first_told a b start name at g x e =
+    let z : 0 + at ≡ at = omega arith in
+    subst (TextsAre a b start) (sym (e ∙ ap (refuses (Text name)) z)) (first_fault x)
+
+pub fault_read : (text : List ℕ) (f : ReadFault) (name : FaultName) (at : ℕ) → f ≡ Fault name at → CircuitTold (Err f) (ReadsText text) → CircuitTold (Err f) (λ a. (b : Result CircuitOf ReadFault) → ReadsText text b → b ≡ a) → IsReadAs text (Err (Fault name at))
+fault_read text f name at e r o = record {
+  reads = subst (λ (x : ReadFault). CircuitTold (Err x) (ReadsText text)) e r;
+  only = subst (λ (x : ReadFault). CircuitTold (Err x) (λ a. (b : Result CircuitOf ReadFault) → ReadsText text b → b ≡ a)) e o;
+}
+
+pub second_told : (a b : List ℕ) (start : ℕ) (c : CircuitOf) (name : FaultName) (at : ℕ) (g : Given) → IsReadAs a (Ok c) → IsReadAs b (Err (Fault name at)) → g ≡ refuses (Text name) (start + at) → TextsAre a b start g
+second_told a b start c name at g x y e = subst (TextsAre a b start) (sym e) (second_fault {c = c} x y)
+
+-- what was read, in a branch of its own
+pub near_refusal : (t : TwoTexts) (why : Refusal) (at : ℕ) → t ≡ Refuses why at → IsNear t → at ≤ 8589934591
+near_refusal t why at e n = subst IsNear e n
+
+pub refuses_read : (a b : List ℕ) (start : ℕ) (t : TwoTexts) (why : Refusal) (at : ℕ) → t ≡ Refuses why at → TextsAre a b start (given_in t) → TextsAre a b start (refuses why at)
+refuses_read a b start t why at e x = subst (λ (u : TwoTexts). TextsAre a b start (given_in u)) e x
+
+pub both_read : (a b : List ℕ) (start : ℕ) (t : TwoTexts) (pair : Pair) → t ≡ Both pair → TextsAre a b start (given_in t) → TextsAre a b start (both pair.qubits (run_of pair.first) (run_of pair.second))
+both_read a b start t pair e x = subst (λ (u : TwoTexts). TextsAre a b start (given_in u)) e x
+
+pub widths_told : (c d : CircuitOf) (start at : ℕ) → c.qubits ≢ d.qubits → at ≡ start → OfCircuits c d start (refuses Widths at)
+widths_told c d start at h e = subst (λ (i : ℕ). OfCircuits c d start (refuses Widths i)) (sym e) (differ h)
+
+pub circuits_told : (c d : CircuitOf) (start : ℕ) → c.qubits ≡ d.qubits → OfCircuits c d start (both c.qubits (run_of c.items) (run_of d.items))
+circuits_told c d start e = agree e
+
+pub texts_of : (a b : List ℕ) (start : ℕ) (c d : CircuitOf) (g : Given) → IsReadAs a (Ok c) → IsReadAs b (Ok d) → OfCircuits c d start g → TextsAre a b start g
+texts_of a b start c d g x y (differ h) = widths {c = c} {d = d} x y h
+texts_of a b start c d g x y (agree h) = circuits {c = c} {d = d} x y h

@@ -1,25 +1,44 @@
--- Lists of prims as items, and verdicts as answers.
-use Rattle.std.proofs.Common.{◌≡◌, ℕ, zero, suc, ◌+◌, ◌<◌, ◌≤◌, refl, ap, ap₂, sym, ◌∙◌, subst, arith, List, [], ◌∷◌, ◌++◌, length, take, get_or, map}
-use Rattle.std.proofs.lemmas.List.{take_more, take_all}
+-- Items as they are compared, and verdicts as answers.
+use Rattle.std.proofs.Common.{◌≡◌, ◌≢◌, ℕ, suc, ◌+◌, ◌<◌, ◌≤◌, refl, ap, ap₂, sym, ◌∙◌, subst, arith, List, [], ◌∷◌, ◌++◌, length, take, get_or, map, ◌*◌, Bool, true, false}
+use Rattle.std.proofs.lemmas.List.{take_more, take_all, length-append}
 use Rattle.std.specs.declared.sync.Arc.{Arc}
 use Rattle.std.specs.declared.alloc.Global.{Global}
 use Rattle.ps_prim.specs.declared.prims.Primitive.{Primitive as Prim}
-use Rattle.ps_prim.specs.declared.prims.Primitive.TheVariants.{U, Cx}
 use Rattle.ps_prim.specs.declared.items.Item.{Item}
-use Rattle.ps_prim.specs.Maps.{IsWithin, AllWithin}
+use Rattle.ps_prim.specs.Maps.{AllWithin, SameMap}
 use Rattle.ps_sum.specs.declared.sums.PathSum.{PathSum}
+use Rattle.ps_sum.specs.declared.faults.Passed.{Passed as Limit}
 use Rattle.ps_rules.specs.declared.steps.Step.{Step}
+use Rattle.ps_rules.specs.declared.steps.Move.{Move}
+use Rattle.ps_reach.specs.declared.evidence.Body.{Body}
+use Rattle.ps_reach.specs.declared.evidence.Body.TheVariants as body
 use Rattle.ps_reach.specs.declared.evidence.Evidence.{Evidence}
+use Rattle.ps_reach.specs.declared.judged.Judged.{Judged}
 use Rattle.ps_reach.specs.declared.verdict.Verdict.{Verdict}
 use Rattle.ps_reach.specs.declared.verdict.Verdict.TheVariants as verdict
 use Rattle.ps_reach.specs.Runs.{prims_of, run_of}
-use Rattle.ps_reach.specs.Findings.{Finding}
-use Rattle.ps_reach.specs.Judging.{finding_of}
+use Rattle.ps_reach.specs.Fillings.{Outcome, Fills, kept}
+use Rattle.ps_reach.specs.Findings.{Finding, yes, Compares, first_limit, second_limit, sums, IsJustified}
+use Rattle.ps_reach.specs.Parts.{outcome_by}
+use Rattle.ps_reach.specs.Judging.{finding_of, outcome_of}
+use Rattle.ps_reach.proofs.Denoting.{within_both}
+use Rattle.ps_reach.proofs.FillsOnce.{fills_only}
 use Rattle.ps_normal.specs.Comparing.{Decides}
+use Rattle.ps_normal.specs.Deriving.{derivation_of, Derives}
+use Rattle.ps_normal.specs.Fillings.{CanRun, IsRecordOf}
+use Rattle.ps_steps.specs.declared.derivation.Derivation.{Derivation}
+use Rattle.ps_steps.specs.Holding.{Holds}
+use Rattle.ps_replay.specs.declared.replayed.Replayed.{Replayed}
+use Rattle.ps_replay.specs.declared.replayed.Replayed.TheVariants as replayed
+use Rattle.ps_replay.specs.declared.replayed.Why.{Why}
+use Rattle.ps_replay.specs.Replaying.{Replays}
+use Rattle.qasm_expand.specs.Maps.{prims_in}
+use Rattle.qasm_expand.specs.States.{ItemsWithin}
 use Rattle.pathsum.specs.declared.input.Input.{Input}
 use Rattle.pathsum.specs.declared.answer.Answer.{Answer}
-use Rattle.pathsum.specs.declared.answer.Answer.TheVariants.{Yes, No, Stuck, Passed}
+use Rattle.pathsum.specs.declared.answer.Answer.TheVariants.{Yes, Proof, No, Stuck, Passed, Accepted, Rejected, Left}
 use Rattle.pathsum.specs.Verdicts.{Says, says_yes, says_no, says_stuck, says_passed, IsVerdict}
+use Rattle.pathsum.specs.Proofs.{Proves, derived, other, Echoes, accepted, rejected, left, IsReplay}
 
 -- ---- an answer tells its verdict
 pub told_yes : (n : ℕ) (v : Verdict) → v ≡ verdict.Yes → Says n (finding_of v) Yes
@@ -34,62 +53,186 @@ told_stuck n v S e = subst (λ x. Says n (finding_of x) (Stuck S)) (sym e) says_
 pub told_passed : (n : ℕ) (v : Verdict) (w : Evidence) → v ≡ verdict.Passed w → Says n (finding_of v) (Passed w.passed)
 told_passed n v w e = subst (λ x. Says n (finding_of x) (Passed w.passed)) (sym e) (says_passed refl)
 
--- ---- an item for each prim
-run_more : (L : List (Arc Item Global)) (a : Arc Item Global) → run_of (map prims_of (L ++ a ∷ [])) ≡ run_of (map prims_of L) ++ prims_of a
+-- ---- items
+pub within_run : (n : ℕ) (is : List (List Prim)) → ItemsWithin n is → AllWithin n (run_of is)
 unfolding run_of
-run_more [] a = alone (prims_of a)
+within_run n [] w = tt
+within_run n (i ∷ is) w = within_both n i (run_of is) w.0 (within_run n is w.1)
+
+pub can_run : (n : ℕ) (items shared : List (List Prim)) → shared ≡ items → length items ≤ 65536 → ItemsWithin n items → CanRun n shared
+can_run n items shared e l w = subst (CanRun n) (sym e) (record { few = l; within = within_run n items w })
+
+map_more : {X Y : Type 0} (f : X → Y) (xs : List X) (x : X) → map f (xs ++ x ∷ []) ≡ map f xs ++ f x ∷ []
+map_more f [] x = refl
+map_more f (y ∷ xs) x = ap (λ r. f y ∷ r) (map_more f xs x)
+
+-- one item more on both sides
+pub shared_more : (L M : List (Arc Item Global)) (I K : List Item) (a : Arc Item Global) (i : Item) → M ≡ L ++ a ∷ [] → K ≡ I ++ i ∷ [] → a.value ≡ i → map prims_of L ≡ map prims_in I → map prims_of M ≡ map prims_in K
+shared_more L M I K a i e f g h =
+    ap (map prims_of) e ∙ map_more prims_of L a ∙ ap₂ (λ (x : List (List Prim)) (y : List Prim). x ++ y ∷ []) h (ap prims_in g) ∙ sym (map_more prims_in I i) ∙ ap (map prims_in) (sym f)
+
+run_more : (L : List (List Prim)) (i : List Prim) → run_of (L ++ i ∷ []) ≡ run_of L ++ i
+unfolding run_of
+run_more [] i = alone i
   where
     alone : (xs : List Prim) → xs ++ [] ≡ xs
     alone [] = refl
     alone (x ∷ xs) = ap (λ r. x ∷ r) (alone xs)
-run_more (b ∷ L) a = ap (λ r. prims_of b ++ r) (run_more L a) ∙ sym (assoc (prims_of b) (run_of (map prims_of L)) (prims_of a))
+run_more (b ∷ L) i = ap (λ r. b ++ r) (run_more L i) ∙ sym (assoc b (run_of L) i)
   where
     assoc : (xs ys zs : List Prim) → (xs ++ ys) ++ zs ≡ xs ++ (ys ++ zs)
     assoc [] ys zs = refl
     assoc (x ∷ xs) ys zs = ap (λ r. x ∷ r) (assoc xs ys zs)
 
--- the items so far come to the first prims
-pub record Itemised (prims : List Prim) (i : ℕ) (L : List (Arc Item Global)) : Type 0 where
-  pub run : run_of (map prims_of L) ≡ take i prims
-  pub count : length L ≡ i
+pub untrue : {b : Bool} → b ≡ false → b ≡ true → ⊥
+untrue {b} e f = off (sym e ∙ f)
+  where
+    off : false ≡ true → ⊥
+    off g = cc
 
-pub itemised_start : (prims : List Prim) (L : List (Arc Item Global)) → L ≡ [] → Itemised prims 0 L
+-- the prims of the first items
+abbrev pub prims_to : List Item → ℕ → List Prim
+prims_to items i = run_of (map prims_in (take i items))
+
+pub prims_start : (items : List Item) (prims : List Prim) → prims ≡ [] → prims ≡ prims_to items 0
 unfolding run_of
-itemised_start prims L e = record { run = ap (λ (x : List (Arc Item Global)). run_of (map prims_of x)) e; count = ap length e }
+prims_start items prims e = e
 
-more_length : (L : List (Arc Item Global)) (a : Arc Item Global) → length (L ++ a ∷ []) ≡ length L + 1
-more_length [] a = refl
-more_length (b ∷ L) a = omega (arith, more_length L a)
+pub prims_more : (items : List Item) (i : ℕ) (item : Item) (prims more added : List Prim) → i < length items → item ≡ get_or items i item → added ≡ item.prims → more ≡ prims ++ added → prims ≡ prims_to items i → more ≡ prims_to items (i + 1)
+prims_more items i item prims more added h e f g w =
+    g ∙ ap₂ (λ (x y : List Prim). x ++ y) w f ∙ sym (run_more (map prims_in (take i items)) item.prims) ∙ ap run_of (sym (map_more prims_in (take i items) item))
+    ∙ ap (λ (l : List Item). run_of (map prims_in l)) (ap (λ x. take i items ++ x ∷ []) e ∙ sym (take_more items i item h))
 
-pub itemised_more : (prims : List Prim) (i : ℕ) (L M : List (Arc Item Global)) (a : Arc Item Global) (g : Prim) → i < length prims → g ≡ get_or prims i g → prims_of a ≡ g ∷ [] → M ≡ L ++ a ∷ [] → Itemised prims i L → Itemised prims (i + 1) M
-itemised_more prims i L M a g h eg ea e w = record {
-  run = ap (λ (x : List (Arc Item Global)). run_of (map prims_of x)) e ∙ run_more L a ∙ ap₂ (λ (x y : List Prim). x ++ y) w.run ea ∙ sym (take_more prims i g h ∙ ap (λ r. take i prims ++ r ∷ []) (sym eg));
-  count = ap length e ∙ more_length L a ∙ ap (λ k. k + 1) w.count;
-}
+-- each item has at most 4,096
+pub few_more : (i : ℕ) (prims more added : List Prim) (item : Item) → added ≡ item.prims → more ≡ prims ++ added → length prims ≤ 4096 * i → length more ≤ 4096 * (i + 1)
+few_more i prims more added item f g h =
+    let e = ap length g ∙ length-append prims added in
+    let k = ap length f in
+    let b = item.bounded.0 in
+    omega (arith, e, k, b, h)
 
-map_length : (L : List (Arc Item Global)) → length (map prims_of L) ≡ length L
-map_length [] = refl
-map_length (a ∷ L) = ap suc (map_length L)
+pub few_all : (items : List Item) (i : ℕ) (prims : List Prim) (lists : List (List Prim)) → i ≤ length items → map prims_in items ≡ lists → length prims ≤ 4096 * i → length prims ≤ 4096 * length lists
+few_all items i prims lists h e l = let k = sym (ap length e) ∙ counted items in omega (arith, h, k, l)
+  where
+    counted : (xs : List Item) → length (map prims_in xs) ≡ length xs
+    counted [] = refl
+    counted (x ∷ xs) = ap suc (counted xs)
 
-pub itemised_run : (prims : List Prim) (i : ℕ) (L : List (Arc Item Global)) (S : List (List Prim)) → length prims ≤ i → S ≡ map prims_of L → Itemised prims i L → run_of S ≡ prims
-itemised_run prims i L S h e w = ap run_of e ∙ w.run ∙ take_all i prims h
+pub few_run : (prims : List Prim) (lists : List (List Prim)) (all : List Prim) → all ≡ prims → length lists ≤ 65536 → length prims ≤ 4096 * length lists → length all ≤ 268435456
+few_run prims lists all e l h = let k = ap length e in omega (arith, k, l, h)
 
-pub itemised_count : (prims : List Prim) (i : ℕ) (L : List (Arc Item Global)) (S : List (List Prim)) → length prims ≤ i → i ≤ length prims → S ≡ map prims_of L → Itemised prims i L → length S ≡ length prims
-itemised_count prims i L S h k e w = ap length e ∙ map_length L ∙ w.count ∙ omega (arith, h, k)
+pub all_within : (n : ℕ) (lists : List (List Prim)) (prims all : List Prim) → all ≡ prims → prims ≡ run_of lists → ItemsWithin n lists → AllWithin n all
+all_within n lists prims all e f w = subst (AllWithin n) (sym (e ∙ f)) (within_run n lists w)
 
-pub prim_within : (n : ℕ) (prims : List Prim) (i : ℕ) (g : Prim) → AllWithin n prims → i < length prims → g ≡ get_or prims i g → IsWithin n g
-prim_within n [] i g w h e = absurd (omega arith)
-prim_within n (a ∷ A) zero g w h e = subst (IsWithin n) (sym e) w.0
-prim_within n (a ∷ A) (suc i) g w h e = prim_within n A i g w.1 (omega arith) e
-
-raise_within : (n : ℕ) (g : Prim) → n ≤ 64 → IsWithin n g → IsWithin 64 g
-raise_within n (U theta phi lambda q) l w = omega (arith, l, w)
-raise_within n (Cx c t) l w = (omega (arith, l, w.0), omega (arith, l, w.1), w.2)
-
-pub within_all : (n : ℕ) (A : List Prim) → n ≤ 64 → AllWithin n A → AllWithin 64 A
-within_all n [] l w = tt
-within_all n (g ∷ A) l w = (raise_within n g l w.0, within_all n A l w.1)
+pub prims_all : (items : List Item) (i : ℕ) (prims : List Prim) (lists : List (List Prim)) → length items ≤ i → map prims_in items ≡ lists → prims ≡ prims_to items i → prims ≡ run_of lists
+prims_all items i prims lists h e w = w ∙ ap (λ (l : List Item). run_of (map prims_in l)) (take_all i items h) ∙ ap run_of e
 
 -- ---- the verdict of the items is that of the prims
-pub verdict_told : (n : ℕ) (A B A' B' : List Prim) (ss : List Step) (v : Verdict) (a : Answer) → A ≡ A' → B ≡ B' → Decides n A B ss (finding_of v) → Says n (finding_of v) a → IsVerdict n A' B' a
-verdict_told n A B A' B' ss v a e f d s = record { steps = ss; finding = finding_of v; decided = subst (λ C. Decides n A' C ss (finding_of v)) f (subst (λ C. Decides n C B ss (finding_of v)) e d); told = s }
+pub verdict_told : (n : ℕ) (A B : List Prim) (ss : List Step) (v : Verdict) (a : Answer) → Decides n A B ss (finding_of v) → Says n (finding_of v) a → IsVerdict n A B a
+verdict_told n A B ss v a d s = record { steps = ss; finding = finding_of v; decided = d; told = s }
+
+-- ---- derivations
+-- what a record with a yes came to
+record KeptAs (o : Outcome) (ms : List Move) : Type 0 where
+  pub sum : PathSum
+  pub is : o ≡ kept sum ms
+
+kept_first : {o u : Outcome} {ss : List Step} {f : Finding} (ms : List Move) (b : Body) → f ≡ yes → Compares o u ss f → o ≡ outcome_by ms b → KeptAs o ms
+kept_first ms (body.Sum s) e c f = record { sum = s.value; is = f }
+kept_first ms (body.Passed w) e c f = absurd (no_first e c f)
+  where
+    no_first : {o u : Outcome} {ss : List Step} {g : Finding} → g ≡ yes → Compares o u ss g → o ≡ outcome_by ms (body.Passed w) → ⊥
+    no_first e first_limit f = cc
+    no_first e second_limit f = cc
+    no_first e (sums x) f = cc
+
+kept_second : {o u : Outcome} {ss : List Step} {f : Finding} (ms : List Move) (b : Body) → f ≡ yes → Compares o u ss f → u ≡ outcome_by ms b → KeptAs u ms
+kept_second ms (body.Sum s) e c f = record { sum = s.value; is = f }
+kept_second ms (body.Passed w) e c f = absurd (no_second e c f)
+  where
+    no_second : {o u : Outcome} {ss : List Step} {g : Finding} → g ≡ yes → Compares o u ss g → u ≡ outcome_by ms (body.Passed w) → ⊥
+    no_second e first_limit f = cc
+    no_second e second_limit f = cc
+    no_second e (sums x) f = cc
+
+pub derivation_told : (n : ℕ) (I K : List (List Prim)) (j : Judged) (d : Derivation) → Decides n (run_of I) (run_of K) j.steps (finding_of j.verdict)
+    → IsRecordOf n I (Fills n (run_of I)) j.first.value → IsRecordOf n K (Fills n (run_of K)) j.second.value
+    → j.verdict ≡ verdict.Yes → d.lines ≡ derivation_of j → Derives j d.lines → Proves n (run_of I) (run_of K) (Proof d)
+derivation_told n I K j d dec r1 r2 v ls h = derived (record {
+  first = k1.sum;
+  second = k2.sum;
+  first_moves = j.first.value.moves;
+  second_moves = j.second.value.moves;
+  steps = j.steps;
+  last = h.last;
+  first_fills = subst (Fills n (run_of I)) k1.is r1.outcome;
+  second_fills = subst (Fills n (run_of K)) k2.is r2.outcome;
+  compares = subst (λ o. Compares o (kept k2.sum j.second.value.moves) j.steps yes) k1.is (subst (λ o. Compares (outcome_of j.first.value) o j.steps yes) k2.is (subst (Compares (outcome_of j.first.value) (outcome_of j.second.value) j.steps) f c));
+  lines = ls;
+  holds = subst (λ m. Holds m (run_of I) (run_of K) d.lines h.last) r1.n_is (subst (λ (x : List (List Prim)). Holds j.first.value.n (run_of x) (run_of K) d.lines h.last) r1.items_are (subst (λ (x : List (List Prim)). Holds j.first.value.n (run_of j.first.value.items.value) (run_of x) d.lines h.last) r2.items_are h.holds));
+  unit = h.unit;
+  same = subst (λ (g : Finding). IsJustified n (run_of I) (run_of K) g) f dec.justified;
+})
+  where
+    f : finding_of j.verdict ≡ yes
+    f = ap finding_of v
+
+    c : Compares (outcome_of j.first.value) (outcome_of j.second.value) j.steps (finding_of j.verdict)
+    c = subst (λ o. Compares o (outcome_of j.second.value) j.steps (finding_of j.verdict)) (fills_only dec.first_fills r1.outcome) (subst (λ o. Compares dec.first o j.steps (finding_of j.verdict)) (fills_only dec.second_fills r2.outcome) dec.compares)
+
+    k1 : KeptAs (outcome_of j.first.value) j.first.value.moves
+    k1 = kept_first j.first.value.moves j.first.value.body f c refl
+
+    k2 : KeptAs (outcome_of j.second.value) j.second.value.moves
+    k2 = kept_second j.second.value.moves j.second.value.body f c refl
+
+says_yes_back : (n : ℕ) (f : Finding) (a : Answer) → Says n f a → a ≡ Yes → f ≡ yes
+says_yes_back n f a says_yes e = refl
+says_yes_back n f a (says_no {input = i} p q) e = absurd (no_no i e)
+  where
+    no_no : (i : Input) → No i ≡ Yes → ⊥
+    no_no i e = cc
+says_yes_back n f a (says_stuck {S = S}) e = absurd (no_stuck S e)
+  where
+    no_stuck : (S : PathSum) → Stuck S ≡ Yes → ⊥
+    no_stuck S e = cc
+says_yes_back n f a (says_passed {passed = p} q) e = absurd (no_passed p e)
+  where
+    no_passed : (p : Limit) → Passed p ≡ Yes → ⊥
+    no_passed p e = cc
+
+found_yes : (v : Verdict) → finding_of v ≡ yes → v ≡ verdict.Yes
+found_yes verdict.Yes e = refl
+found_yes (verdict.No b) e = cc
+found_yes (verdict.Stuck S) e = cc
+found_yes (verdict.Passed w) e = cc
+
+no_other_yes : (n : ℕ) (v : Verdict) (a : Answer) → (v ≡ verdict.Yes → ⊥) → Says n (finding_of v) a → a ≢ Yes
+no_other_yes n v a h s e = h (found_yes v (says_yes_back n (finding_of v) a s e))
+
+pub other_told : (n : ℕ) (A B : List Prim) (ss : List Step) (v : Verdict) (a : Answer) → Decides n A B ss (finding_of v) → (v ≡ verdict.Yes → ⊥) → Says n (finding_of v) a → Proves n A B a
+other_told n A B ss v a d h s = other (verdict_told n A B ss v a d s) (no_other_yes n v a h s)
+
+-- ---- replays
+accepted_only : (r : Replayed) (a : Answer) → Echoes r a → a ≡ Accepted → r ≡ replayed.Accepted
+accepted_only r a accepted e = refl
+accepted_only r a rejected e = absurd (no_rejected e)
+  where
+    no_rejected : {l : ℕ} {w : Why} → Rejected l w ≡ Accepted → ⊥
+    no_rejected e = cc
+accepted_only r a left e = absurd (no_left e)
+  where
+    no_left : {S : PathSum} → Left S ≡ Accepted → ⊥
+    no_left e = cc
+
+pub replay_told : (n : ℕ) (A B A' B' : List Prim) (d : List ℕ) (r : Replayed) (a : Answer) → A ≡ A' → B ≡ B' → Replays n A B d r → (r ≡ replayed.Accepted → SameMap n A B) → Echoes r a → IsReplay n A' B' d a
+replay_told n A B A' B' d r a e f x s t = subst (λ (C : List Prim). IsReplay n A' C d a) f (subst (λ (C : List Prim). IsReplay n C B d a) e (record { replayed = r; replays = x; told = t; sound = λ h. s (accepted_only r a t h) }))
+
+pub echoed_accepted : (r : Replayed) → r ≡ replayed.Accepted → Echoes r Accepted
+echoed_accepted r e = subst (λ x. Echoes x Accepted) (sym e) accepted
+
+pub echoed_left : (r : Replayed) (S : PathSum) → r ≡ replayed.Left S → Echoes r (Left S)
+echoed_left r S e = subst (λ x. Echoes x (Left S)) (sym e) left
+
+pub echoed_rejected : (r : Replayed) (l : ℕ) (w : Why) → r ≡ replayed.Rejected l w → Echoes r (Rejected l w)
+echoed_rejected r l w e = subst (λ x. Echoes x (Rejected l w)) (sym e) rejected

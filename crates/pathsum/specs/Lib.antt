@@ -1,6 +1,11 @@
 pub mod Answers
+pub mod Commands
 pub mod Ended
+pub mod Givens
 pub mod Inputs
-pub mod Plain
-pub mod Readings
+pub mod Judgements
+pub mod Names
+pub mod Proofs
+pub mod Splits
+pub mod Texts
 pub mod Verdicts

@@ -2,28 +2,47 @@ ghost use Rattle.std.specs.Prelude.{◌≡◌, ◌++◌, ◌∷◌, [], ◌≤�
 ghost use Rattle.ps_mono.specs.Sets.{stands};
 ghost use Rattle.ps_overlap.specs.Overlapping.{point};
 ghost use Rattle.ps_sum.specs.Texts.{sum_text};
-ghost use Rattle.pathsum.specs.Answers.{status_of, words_of, line_of, limit_words};
+ghost use Rattle.pathsum.specs.Answers.{status_of, text_of, limit_words, why_words};
 ghost use Rattle.pathsum.specs.Inputs.{bit_code};
+ghost use Rattle.pathsum.specs.Names.{refusal_name};
 
 use super::input::Input;
+use super::refusals::Refusal;
+use ps_replay::Why;
+use ps_steps::{Derivation, text};
 use ps_sum::{Passed, PathSum, What};
 use std::alloc::{AllocError, Global};
 
-/// What the program answers. Each answer has an exit status and a line.
+/// What the program answers. Each answer has an exit status, and bytes that are printed.
 #[derive(Drop)]
 pub enum Answer {
     /// The two circuits are one linear map.
     Yes,
+    /// The two circuits are one linear map, as this derivation shows.
+    Proof(Derivation),
     /// The two circuits differ at this input.
     No(Input),
     /// No rule reduces this sum, to which the overlap of the two circuits comes.
     Stuck(PathSum),
     /// A limit was passed on the way.
     Passed(Passed),
+    /// The derivation shows that the two circuits are one linear map.
+    Accepted,
+    /// The derivation fails at this line, counted from 1.
+    Rejected {
+        line: u32,
+        why: Why,
+    },
+    /// The derivation holds, and comes to this sum, which is not 1.
+    Left(PathSum),
+    /// The input is refused, at this line and this column, both counted from 1.
+    Refused {
+        why: Refusal,
+        line: u32,
+        column: u64,
+    },
     /// The words of the command have no known form.
     Words,
-    /// The input is no pair of plain texts.
-    NotYet,
     /// The input could not be read.
     Read,
     /// The input is longer than the limit.
@@ -39,28 +58,36 @@ impl Answer {
     {
         match self {
             Answer::Yes => 0,
+            Answer::Proof(_) => 0,
             Answer::No(_) => 1,
             Answer::Stuck(_) => 2,
             Answer::Passed(_) => 2,
+            Answer::Accepted => 0,
+            Answer::Rejected { .. } => 1,
+            Answer::Left(_) => 2,
+            Answer::Refused { .. } => 65,
             Answer::Words => 64,
-            Answer::NotYet => 65,
             Answer::Read => 66,
             Answer::TooLong => 68,
             Answer::Memory => 70,
         }
     }
 
-    /// The line that is printed, with its line feed.
-    pub fn line(&self, alloc: Global) -> Result<Vec<u8>, AllocError>
-        ensures { IfOk result (λ v. v.items ≡ line_of self.now) }
+    /// What is printed: one line, or those of a derivation, each with its line feed.
+    pub fn text(&self, alloc: Global) -> Result<Vec<u8>, AllocError>
+        ensures { IfOk result (λ v. v.items ≡ text_of self.now) }
     {
         match self {
             Answer::Yes => b"yes\n".to_vec(alloc),
+            Answer::Proof(derivation) => text(alloc, derivation),
             Answer::No(input) => no_line(alloc, input),
             Answer::Stuck(sum) => stuck_line(alloc, sum),
             Answer::Passed(passed) => passed_line(alloc, passed),
+            Answer::Accepted => b"accepted\n".to_vec(alloc),
+            Answer::Rejected { line, why } => rejected_line(alloc, *line, *why),
+            Answer::Left(sum) => left_line(alloc, sum),
+            Answer::Refused { why, line, column } => refused_line(alloc, *why, *line, *column),
             Answer::Words => b"words\n".to_vec(alloc),
-            Answer::NotYet => b"input NotYet 1:1\n".to_vec(alloc),
             Answer::Read => b"read\n".to_vec(alloc),
             Answer::TooLong => b"too long\n".to_vec(alloc),
             Answer::Memory => b"memory\n".to_vec(alloc),
@@ -70,7 +97,7 @@ impl Answer {
 
 // `no` with a digit for each qubit.
 fn no_line(alloc: Global, input: &Input) -> Result<Vec<u8>, AllocError>
-    ensures { IfOk result (λ v. v.items ≡ codes "no " ++ map bit_code (point input.now.qubits input.now.at) ++ 10 ∷ []) }
+    ensures { IfOk result (λ v. v.items ≡ codes "no " ++ map bit_code (point input.now.qubits input.now.at) ++ codes "\n") }
 {
     let mut line = b"no ".to_vec(alloc)?;
     let at = input.at;
@@ -83,7 +110,7 @@ fn no_line(alloc: Global, input: &Input) -> Result<Vec<u8>, AllocError>
 
 // `unknown stuck` with the sum that is left.
 fn stuck_line(alloc: Global, sum: &PathSum) -> Result<Vec<u8>, AllocError>
-    ensures { IfOk result (λ v. v.items ≡ codes "unknown stuck " ++ sum_text sum.now ++ 10 ∷ []) }
+    ensures { IfOk result (λ v. v.items ≡ codes "unknown stuck " ++ sum_text sum.now ++ codes "\n") }
 {
     let mut line = b"unknown stuck ".to_vec(alloc)?;
     let text = sum.text(alloc)?;
@@ -94,12 +121,54 @@ fn stuck_line(alloc: Global, sum: &PathSum) -> Result<Vec<u8>, AllocError>
 
 // `unknown passed` with what a limit is put on, and how many there were.
 fn passed_line(alloc: Global, passed: &Passed) -> Result<Vec<u8>, AllocError>
-    ensures { IfOk result (λ v. v.items ≡ limit_words passed.now ++ 10 ∷ []) }
+    ensures { IfOk result (λ v. v.items ≡ limit_words passed.now ++ codes "\n") }
 {
     let count = passed.count;
     let line = match passed.what {
         What::Terms => format!(in alloc; "unknown passed terms {count}\n")?,
         What::Variables => format!(in alloc; "unknown passed variables {count}\n")?,
     };
+    Ok(line.into_bytes())
+}
+
+// `left` with the sum that is left.
+fn left_line(alloc: Global, sum: &PathSum) -> Result<Vec<u8>, AllocError>
+    ensures { IfOk result (λ v. v.items ≡ codes "left " ++ sum_text sum.now ++ codes "\n") }
+{
+    let mut line = b"left ".to_vec(alloc)?;
+    let text = sum.text(alloc)?;
+    line.extend_from_slice(&text)?;
+    line.push(b'\n')?;
+    Ok(line)
+}
+
+// The word for why a derivation fails.
+fn why_name(why: Why) -> &'static str
+    ensures { result.now ≡ why_words why }
+{
+    match why {
+        Why::Form => "Form",
+        Why::Cut => "Cut",
+        Why::Order => "Order",
+        Why::Redex => "Redex",
+        Why::Limit => "Limit",
+    }
+}
+
+// `rejected` with the line that fails, and why.
+fn rejected_line(alloc: Global, line: u32, why: Why) -> Result<Vec<u8>, AllocError>
+    ensures { IfOk result (λ v. v.items ≡ codes "rejected " ++ decimal line ++ codes " " ++ why_words why ++ codes "\n") }
+{
+    let name = why_name(why);
+    let line = format!(in alloc; "rejected {line} {name}\n")?;
+    Ok(line.into_bytes())
+}
+
+// `input` with why it is refused, and where.
+fn refused_line(alloc: Global, why: Refusal, line: u32, column: u64) -> Result<Vec<u8>, AllocError>
+    ensures { IfOk result (λ v. v.items ≡ codes "input " ++ refusal_name why ++ codes " " ++ decimal line ++ codes ":" ++ decimal column ++ codes "\n") }
+{
+    let name = why.name();
+    let line = format!(in alloc; "input {name} {line}:{column}\n")?;
     Ok(line.into_bytes())
 }

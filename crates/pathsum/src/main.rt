@@ -1,24 +1,29 @@
 //! Compares two quantum circuits.
 #![tactic(auto)]
 
-ghost use Rattle.std.specs.Prelude.{◌↔◌, IsTrue, map, string_bytes};
-ghost use Rattle.pathsum.specs.Ended.{Answers, Ends, IsOneAnswer, IsSame};
+ghost use Rattle.std.specs.Prelude.{map, string_bytes};
+ghost use Rattle.pathsum.specs.Ended.{Answers, Ends, IsOneAnswer};
 
 mod answer;
+mod calls;
+mod commands;
 mod ended;
 mod input;
-mod plain;
+mod pair;
 mod print;
-mod same;
+mod reading;
+mod refusals;
+mod splits;
 #[cfg(test)]
 mod tests;
 mod verdict;
 
 use answer::Answer;
+pub use calls::{prove_run, replay_run, same_run};
+use commands::{Command, command_of};
 pub use ended::Ended;
 use print::print;
 use ps_io::{Gate, OpenGate, Sink, Source, StdSink, StdSource};
-pub use same::same_run;
 use std::alloc::{AllocError, Global};
 use std::env;
 use std::io::ErrorKind;
@@ -36,18 +41,12 @@ pub fn run<S: Source, W: Sink, G: Gate + Sync>(
     ensures ends { Ends (Answers (map string_bytes words.now) (S.remaining source.old) (S.faults source.old) (S.faults source.new)) (W.held sink.old) (W.held sink.new) (W.faults sink.old) (W.faults sink.new) result.status }
     ensures one_answer { IsOneAnswer (map string_bytes words.now) (S.remaining source.old) }
 {
-    if is_same(words) {
-        same_run(alloc, source, sink)
-    } else {
-        print(alloc, sink, &Answer::Words)
+    match command_of(words) {
+        None => print(alloc, sink, &Answer::Words),
+        Some(Command::Same) => same_run(alloc, source, sink),
+        Some(Command::Prove) => prove_run(alloc, source, sink),
+        Some(Command::Replay) => replay_run(alloc, source, sink),
     }
-}
-
-// Whether the words are the one word `same`.
-fn is_same(words: &[String]) -> bool
-    ensures { IsTrue result ↔ IsSame (map string_bytes words.now) }
-{
-    words.len() == 1 && words[0].as_str() == "same"
 }
 
 // The words behind the program's name; none where one of them is no UTF-8.

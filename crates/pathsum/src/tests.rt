@@ -29,15 +29,15 @@ fn ends_so(alloc: Global, row: &Row) -> Result<bool, AllocError> {
         writes.push(call)?;
     }
     let mut source = MemorySource::new(row.input.to_vec(alloc)?, 11, reads);
-    let mut sink = MemorySink::new(vec![in alloc; 0; 128]?, writes);
+    let mut sink = MemorySink::new(vec![in alloc; 0; 256]?, writes);
     let ended = run(alloc, &words, &mut source, &mut sink, &OpenGate);
     Ok(ended.status == row.status && sink.held() == row.printed)
 }
 
-// A row of `same` without faults.
-fn same<'a>(input: &'a [u8], status: u8, printed: &'a [u8]) -> Row<'a> {
+// A row without faults.
+fn told<'a>(words: &'a [&'a str], input: &'a [u8], status: u8, printed: &'a [u8]) -> Row<'a> {
     Row {
-        words: &["same"],
+        words,
         input,
         failing_read: None,
         failing_write: None,
@@ -46,11 +46,110 @@ fn same<'a>(input: &'a [u8], status: u8, printed: &'a [u8]) -> Row<'a> {
     }
 }
 
+// A row of `same` without faults.
+fn same<'a>(input: &'a [u8], status: u8, printed: &'a [u8]) -> Row<'a> {
+    told(&["same"], input, status, printed)
+}
+
+// Two texts on these qubits with the library, each with its lines.
+fn pair(alloc: Global, qubits: u32, first: &str, second: &str) -> Result<String, AllocError> {
+    format!(in alloc;
+        "OPENQASM 2.0;\ninclude \"qelib1.inc\";\nqreg q[{qubits}];\n{first}====\nOPENQASM 2.0;\ninclude \"qelib1.inc\";\nqreg q[{qubits}];\n{second}"
+    )
+}
+
+const TOFFOLI: &str = "ccx q[0],q[1],q[2];\n";
+
+#[test]
+fn texts_with_the_library_are_answered(rt: HostRuntime) -> Result<(), Fail> {
+    let alloc = rt.alloc();
+    let twice = format!(in alloc; "{TOFFOLI}{TOFFOLI}")?;
+    let rows: [(u32, &str, &str, u8, &[u8]); 13] = [
+        (1, "h q[0];\nh q[0];\n", "", 0, b"yes\n"),
+        (1, "x q[0];\n", "h q[0];\nz q[0];\nh q[0];\n", 0, b"yes\n"),
+        (1, "s q[0];\n", "t q[0];\n", 1, b"no 1\n"),
+        (1, "x q[0];\n", "", 1, b"no 0\n"),
+        (1, "h q[0];\n", "", 1, b"no 0\n"),
+        (1, "u3(2*pi,0,0) q[0];\n", "", 1, b"no 0\n"),
+        (3, twice.as_str(), "", 0, b"yes\n"),
+        (3, TOFFOLI, "cswap q[0],q[1],q[2];\n", 1, b"no 110\n"),
+        (
+            1,
+            "h q[0];\nt q[0];\nh q[0];\n",
+            "",
+            2,
+            b"unknown stuck k=2 m=1 P=7/8*y0 f=-\n",
+        ),
+        (1, "rx(pi/3) q[0];\n", "", 65, b"input NotDyadic 4:4\n"),
+        (
+            1,
+            "rx(pi*3/6) q[0];\n",
+            "u3(pi/2,-pi/2,pi/2) q[0];\n",
+            0,
+            b"yes\n",
+        ),
+        (2, "cx q[0],q[0];\n", "", 65, b"input RepeatedQubit 4:9\n"),
+        (
+            1,
+            "creg c[1];\nmeasure q[0] -> c[0];\n",
+            "",
+            65,
+            b"input NotUnitary 5:1\n",
+        ),
+    ];
+    for (qubits, first, second, status, printed) in rows {
+        let input = pair(alloc, qubits, first, second)?;
+        assert!(rt; ends_so(alloc, &same(input.as_bytes(), status, printed))?);
+    }
+    Ok(())
+}
+
+#[test]
+fn a_realistic_pair_is_answered(rt: HostRuntime) -> Result<(), Fail> {
+    let alloc = rt.alloc();
+    let first =
+        "creg c[3];\nh q[2];\ncp(pi/2) q[1],q[2];\nh q[1];\ncp(pi/4) q[0],q[2];\ncp(pi/2) q[0],q[1];\nh q[0];\nbarrier q[0],q[1],q[2];\nswap q[0],q[2];\n";
+    let second =
+        "h q[2];\ncu1(pi/2) q[1],q[2];\nh q[1];\ncu1(pi/4) q[0],q[2];\ncu1(pi/2) q[0],q[1];\nh q[0];\nswap q[0],q[2];\n";
+    let input = pair(alloc, 3, first, second)?;
+    assert!(rt; ends_so(alloc, &same(input.as_bytes(), 0, b"yes\n"))?);
+    Ok(())
+}
+
+#[test]
+fn limits_are_told(rt: HostRuntime) -> Result<(), Fail> {
+    let alloc = rt.alloc();
+    let mut flips = String::from_str(alloc, "")?;
+    for i in 0..63u32 {
+        flips.push_str(format!(in alloc; "cx q[{i}],q[63];\n")?.as_str())?;
+    }
+    flips.push_str("u1(pi/8) q[63];\n")?;
+    let terms = pair(alloc, 64, flips.as_str(), "")?;
+    assert!(rt;
+        ends_so(
+            alloc,
+            &same(terms.as_bytes(), 2, b"unknown passed terms 679120\n")
+        )?
+    );
+    let mut layers = String::from_str(alloc, "")?;
+    for _ in 0..7u32 {
+        layers.push_str("h q;\nt q;\n")?;
+    }
+    let variables = pair(alloc, 64, layers.as_str(), "")?;
+    assert!(rt;
+        ends_so(
+            alloc,
+            &same(variables.as_bytes(), 2, b"unknown passed variables 513\n")
+        )?
+    );
+    Ok(())
+}
+
 const TWICE: &[u8] =
     b"OPENQASM 2.0;\nqreg q[2];\nCX q[0],q[1];\nCX q[0],q[1];\n====\nOPENQASM 2.0;\nqreg q[2];\n";
 
 #[test]
-fn pairs_are_answered(rt: HostRuntime) -> Result<(), Fail> {
+fn texts_without_the_library_are_answered(rt: HostRuntime) -> Result<(), Fail> {
     let rows = [
         same(TWICE, 0, b"yes\n"),
         same(
@@ -76,9 +175,13 @@ fn pairs_are_answered(rt: HostRuntime) -> Result<(), Fail> {
         same(
             b"OPENQASM 2.0;\nqreg q[1];\nh q[0];\n====\nOPENQASM 2.0;\nqreg q[1];\n",
             65,
-            b"input NotYet 1:1\n",
+            b"input Unknown 3:1\n",
         ),
-        same(b"", 65, b"input NotYet 1:1\n"),
+        same(
+            b"OPENQASM 2.0;\nqreg q[1];\nU(pi*3/6,0,pi) q[0];\n====\nOPENQASM 2.0;\nqreg r[1];\nU(0.5*pi,0,pi) r[0];\n",
+            0,
+            b"yes\n",
+        ),
     ];
     for row in &rows {
         assert!(rt; ends_so(rt.alloc(), row)?);
@@ -86,56 +189,142 @@ fn pairs_are_answered(rt: HostRuntime) -> Result<(), Fail> {
     Ok(())
 }
 
-// Two texts on one qubit with these lines.
-fn on_one(alloc: Global, first: &str, second: &str) -> Result<String, AllocError> {
-    format!(in alloc; "OPENQASM 2.0;\nqreg q[1];\n{first}====\nOPENQASM 2.0;\nqreg q[1];\n{second}")
-}
-
-const H: &str = "U(pi/2,0,pi) q[0];\n";
-
-const X: &str = "U(pi,0,pi) q[0];\n";
-
+// The first refusal in the order of the work stands, and its place is counted in the whole input.
 #[test]
-fn rotations_are_answered(rt: HostRuntime) -> Result<(), Fail> {
-    let alloc = rt.alloc();
-    let twice = format!(in alloc; "{H}{H}")?;
-    let between = format!(in alloc; "{H}U(0,0,pi) q[0];\n{H}")?;
-    let eighth = format!(in alloc; "{H}U(0,0,pi/4) q[0];\n{H}")?;
-    let rows: [(&str, &str, u8, &[u8]); 6] = [
-        (twice.as_str(), "", 0, b"yes\n"),
-        (X, between.as_str(), 0, b"yes\n"),
-        (X, "", 1, b"no 0\n"),
-        (H, "", 1, b"no 0\n"),
-        ("U(2*pi,0,0) q[0];\n", "", 1, b"no 0\n"),
-        (
-            eighth.as_str(),
-            "",
-            2,
-            b"unknown stuck k=2 m=1 P=7/8*y0 f=-\n",
+fn refusals_are_told(rt: HostRuntime) -> Result<(), Fail> {
+    let rows = [
+        same(b"", 65, b"input Separator 1:1\n"),
+        same(
+            b"OPENQASM 2.0;\nqreg q[1];\n====\nOPENQASM 2.0;\nqreg q[1]",
+            65,
+            b"input Syntax 5:10\n",
+        ),
+        same(
+            b"OPENQASM 2.0;\nqreg q[1];\nU(pi/3,0,0) q[0];\n====\nOPENQASM 2.0;\nqreg q[1];\n",
+            65,
+            b"input NotDyadic 3:3\n",
+        ),
+        same(
+            b"OPENQASM 2.0;\nqreg q[1];\nU(pi*3/6,0,pi) q[0];\n====\nOPENQASM 2.0;\nqreg q[2];\nU(0.5*pi,0,pi) q[0];\n",
+            65,
+            b"input Widths 5:1\n",
+        ),
+        same(
+            b"OPENQASM 2.0;\nqreg q[1];\n====\nOPENQASM 2.0;\nqreg q[2];\nU(pi/3,0,0) q[0];\n",
+            65,
+            b"input NotDyadic 6:3\n",
+        ),
+        told(
+            &["replay"],
+            b"OPENQASM 2.0;\nqreg q[1];\n====\nOPENQASM 2.0;\nqreg q[2];\n",
+            65,
+            b"input Separator 6:1\n",
         ),
     ];
-    for (first, second, status, printed) in rows {
-        let input = on_one(alloc, first, second)?;
+    for row in &rows {
+        assert!(rt; ends_so(rt.alloc(), row)?);
+    }
+    Ok(())
+}
+
+#[test]
+fn separators_are_found(rt: HostRuntime) -> Result<(), Fail> {
+    let alloc = rt.alloc();
+    let text = "OPENQASM 2.0;\nqreg q[1];\n";
+    let rows: [(&str, &str, u8, &[u8]); 7] = [
+        ("====\n", text, 0, b"yes\n"),
+        ("====\r\n", text, 0, b"yes\n"),
+        ("====\r", "", 65, b"input Version 3:6\n"),
+        ("====", "", 65, b"input Version 3:5\n"),
+        ("==== \n", text, 65, b"input Separator 6:1\n"),
+        ("=====\n", text, 65, b"input Separator 6:1\n"),
+        ("// ====\n", text, 65, b"input Separator 6:1\n"),
+    ];
+    for (between, second, status, printed) in rows {
+        let input = format!(in alloc; "{text}{between}{second}")?;
         assert!(rt; ends_so(alloc, &same(input.as_bytes(), status, printed))?);
     }
     Ok(())
 }
 
+const DERIVATION: &str =
+    "pathsum 1\nleaf a 0\nomega 0\nleaf a 1\nomega 0\njoin\nhh 0 1\nid b\noverlap\nelim 0\nend\n";
+
 #[test]
-fn too_many_terms_are_told(rt: HostRuntime) -> Result<(), Fail> {
+fn derivations_are_printed(rt: HostRuntime) -> Result<(), Fail> {
     let alloc = rt.alloc();
-    let mut text = String::from_str(alloc, "OPENQASM 2.0;\nqreg q[64];\n")?;
-    for i in 0..63u32 {
-        text.push_str(format!(in alloc; "CX q[{i}],q[63];\n")?.as_str())?;
-    }
-    text.push_str("U(0,0,pi/8) q[63];\n====\nOPENQASM 2.0;\nqreg q[64];\n")?;
-    let row = same(text.as_bytes(), 2, b"unknown passed terms 679120\n");
-    assert!(rt; ends_so(alloc, &row)?);
+    let yes = pair(alloc, 1, "h q[0];\nh q[0];\n", "")?;
+    assert!(rt;
+        ends_so(
+            alloc,
+            &told(&["prove"], yes.as_bytes(), 0, DERIVATION.as_bytes())
+        )?
+    );
+    let no = pair(alloc, 1, "x q[0];\n", "")?;
+    assert!(rt; ends_so(alloc, &told(&["prove"], no.as_bytes(), 1, b"no 0\n"))?);
     Ok(())
 }
 
 #[test]
-fn faults_of_the_outside_are_told(rt: HostRuntime) -> Result<(), Fail> {
+fn derivations_are_replayed(rt: HostRuntime) -> Result<(), Fail> {
+    let alloc = rt.alloc();
+    let twice = "h q[0];\nh q[0];\n";
+    let rows: [(&str, &str, u8, &[u8]); 9] = [
+        (twice, DERIVATION, 0, b"accepted\n"),
+        (
+            twice,
+            "pathsum 1\nleaf a 0\nomega 0\nleaf a 1\nomega 0\njoin\nhh 1 0\nid b\noverlap\nelim 0\nend\n",
+            1,
+            b"rejected 7 Redex\n",
+        ),
+        (
+            twice,
+            "pathsum 1\nleaf a 0\nomega 0\nleaf a 1\nomega 0\njoin\nhh 0 1\nid b\noverlap\nelim 0\n",
+            1,
+            b"rejected 11 Cut\n",
+        ),
+        (
+            twice,
+            "pathsum 1\nleaf a 0\nomega 0\nleaf a 1\nomega 0\njoin\nhh 0 1\nid b\noverlap\nend\n",
+            2,
+            b"left k=2 m=1 P=0 f=-\n",
+        ),
+        (
+            twice,
+            "pathsum 1\nleaf a 2\nomega 0\nleaf a 1\nomega 0\njoin\nhh 0 1\nid b\noverlap\nelim 0\nend\n",
+            1,
+            b"rejected 2 Order\n",
+        ),
+        (
+            twice,
+            "pathsum 1\nleaf a 0\nomega 0\nleaf a 1\nomega 0\njoins\nhh 0 1\nid b\noverlap\nelim 0\nend\n",
+            1,
+            b"rejected 6 Form\n",
+        ),
+        (
+            twice,
+            "pathsum 1\npathsum 1\nleaf a 0\nomega 0\nleaf a 1\nomega 0\njoin\nhh 0 1\nid b\noverlap\nelim 0\nend\n",
+            1,
+            b"rejected 2 Form\n",
+        ),
+        (
+            "id q[0];\n",
+            "pathsum 1\nleaf a 0\nid a\njoin\nid b\noverlap\nelim 0\nend\n",
+            0,
+            b"accepted\n",
+        ),
+        (twice, "", 1, b"rejected 1 Cut\n"),
+    ];
+    for (first, document, status, printed) in rows {
+        let texts = pair(alloc, 1, first, "")?;
+        let input = format!(in alloc; "{texts}====\n{document}")?;
+        assert!(rt; ends_so(alloc, &told(&["replay"], input.as_bytes(), status, printed))?);
+    }
+    Ok(())
+}
+
+#[test]
+fn words_and_faults_of_the_outside_are_told(rt: HostRuntime) -> Result<(), Fail> {
     let rows = [
         Row {
             failing_read: Some(1),
@@ -145,18 +334,10 @@ fn faults_of_the_outside_are_told(rt: HostRuntime) -> Result<(), Fail> {
             failing_write: Some(0),
             ..same(TWICE, 67, b"")
         },
-        Row {
-            words: &[],
-            ..same(TWICE, 64, b"words\n")
-        },
-        Row {
-            words: &["same", "same"],
-            ..same(TWICE, 64, b"words\n")
-        },
-        Row {
-            words: &["prove"],
-            ..same(TWICE, 64, b"words\n")
-        },
+        told(&[], TWICE, 64, b"words\n"),
+        told(&["same", "same"], TWICE, 64, b"words\n"),
+        told(&["Prove"], TWICE, 64, b"words\n"),
+        told(&["gen", "1", "17", "3"], TWICE, 64, b"words\n"),
     ];
     for row in &rows {
         assert!(rt; ends_so(rt.alloc(), row)?);
@@ -168,7 +349,7 @@ fn faults_of_the_outside_are_told(rt: HostRuntime) -> Result<(), Fail> {
 fn long_input_is_told(rt: HostRuntime) -> Result<(), Fail> {
     let alloc = rt.alloc();
     let longest = vec![in alloc; b' '; 16_777_216]?;
-    assert!(rt; ends_so(alloc, &same(&longest, 65, b"input NotYet 1:1\n"))?);
+    assert!(rt; ends_so(alloc, &same(&longest, 65, b"input Separator 1:16777217\n"))?);
     let longer = vec![in alloc; b' '; 16_777_217]?;
     assert!(rt; ends_so(alloc, &same(&longer, 68, b"too long\n"))?);
     Ok(())

@@ -1,9 +1,8 @@
-use Rattle.std.proofs.Common.{◌≡◌, ◌++◌, ◌∷◌, [], refl, ap, sym, ◌∙◌, map, arith, ℕ, List, rules}
+use Rattle.std.proofs.Common.{◌≡◌, ◌++◌, ◌∷◌, [], ap, sym, ◌∙◌, arith, ℕ, List, rules}
 use Rattle.pathsum.specs.Inputs.{bit_code}
 use Rattle.pathsum.proofs.InputLemmas.{digits_start, digits_next, digits_to}
 use Rattle.pathsum.proofs.answer.no_line.Goals as goal
 use Rattle.pathsum.proofs.answer.no_line.Goals.{then-get, else-get}
-use Rattle.ps_mono.specs.Sets.{stands}
 
 pub loop-v-init : goal.loop-v-init
 loop-v-init c = search (rules, digits_start)

@@ -1,0 +1,38 @@
+//! The words of the program.
+
+ghost use Rattle.std.specs.Prelude.{◌≡◌, ◌∷◌, [], ◌↔◌, IsTrue, MatchOption, map, string_bytes};
+ghost use Rattle.pathsum.specs.declared.commands.Command.{Command as Wanted};
+ghost use Rattle.pathsum.specs.Commands.{IsCommand};
+
+/// What the words ask for.
+#[derive(Clone, Copy, Debug, PartialEq, Eq)]
+pub enum Command {
+    /// Whether two circuits are one linear map.
+    Same,
+    /// The same, with the derivation where they are.
+    Prove,
+    /// Whether a derivation shows that two circuits are one linear map.
+    Replay,
+}
+
+/// The command that the words are; none where they have another form.
+pub fn command_of(words: &[String]) -> Option<Command>
+    ensures { MatchOption result ((c : Wanted) → ¬ (IsCommand c (map string_bytes words.now))) (λ c. IsCommand c (map string_bytes words.now)) }
+{
+    if is_word(words, "same") {
+        Some(Command::Same)
+    } else if is_word(words, "prove") {
+        Some(Command::Prove)
+    } else if is_word(words, "replay") {
+        Some(Command::Replay)
+    } else {
+        None
+    }
+}
+
+// Whether the words are this one word.
+fn is_word(words: &[String], word: &str) -> bool
+    ensures { IsTrue result ↔ (map string_bytes words.now ≡ word.now ∷ []) }
+{
+    words.len() == 1 && words[0].as_str() == word
+}
