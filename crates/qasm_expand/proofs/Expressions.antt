@@ -185,9 +185,10 @@ module _ {X : Type 0} (Is : List Op → Result X AngleFault → Type 0) where
 
   pub onward_next : (es : List (List Op)) (i : ℕ) (xs ys : List X) (e : List Op) (x : X) → Onward es i xs → i < length es → e ≡ get_or es i [] → Is e (Ok x) → ys ≡ xs ++ (x ∷ []) → Onward es (i + 1) ys
   onward_next es i xs ys e x (n, f) lt g h q =
-      let d : drop i es ≡ e ∷ drop (i + 1) es = rw add-one (drop-cons es i [] lt ∙ ap (λ a. a ∷ drop (suc i) es) (sym g)) in
-      (ap length q ∙ length-append xs (x ∷ []) ∙ ap (λ k. k + 1) n,
-      λ r k. subst (λ zs. Each Is es (behind_all zs r)) (sym q) (subst (λ z. Each Is es z) (sym (behind_more xs x r)) (f (behind_one x r) (subst (λ z. Each Is z (behind_one x r)) (sym d) (one h k)))))
+      let d : drop i es ≡ e ∷ drop (i + 1) es = rw add-one (drop-cons es i [] lt ∙ ap (λ a. a ∷ drop (suc i) es) (sym g)) in (
+        ap length q ∙ length-append xs (x ∷ []) ∙ ap (λ k. k + 1) n,
+        λ r k. subst (λ zs. Each Is es (behind_all zs r)) (sym q) (subst (λ z. Each Is es z) (sym (behind_more xs x r)) (f (behind_one x r) (subst (λ z. Each Is z (behind_one x r)) (sym d) (one h k)))),
+      )
 
   pub onward_fault : (es : List (List Op)) (i k : ℕ) (xs : List X) (e : List Op) (f : AngleFault) → Onward es i xs → i < length es → e ≡ get_or es i [] → k ≡ length xs → Told (Err f) (λ r. Is e r) → unless_memory f (Each Is es (Err (record { at = k; fault = f })))
   onward_fault es i k xs e f (n, g) lt q l h =

@@ -47,7 +47,7 @@ pub gate_defined : (bytes : List ℕ) (g new : Gates) (s : Statement) (name : Sp
     → Became r new (λ z. z ≡ defined bytes g name ps xs ss) → Became r new (λ z. z ≡ all_defined bytes g (s ∷ []))
 gate_defined bytes g new s name params args ps xs body ss r e d c b h =
     became_eq r new (defined bytes g name ps xs ss) (all_defined bytes g (s ∷ []))
-      (ap (λ z. defined bytes g name z xs ss) d ∙ ap (λ z. defined bytes g name params z ss) c ∙ ap (λ z. defined bytes g name params args z) b ∙ sym (one_gate bytes g s name params args body e)) h
+    (ap (λ z. defined bytes g name z xs ss) d ∙ ap (λ z. defined bytes g name params z ss) c ∙ ap (λ z. defined bytes g name params args z) b ∙ sym (one_gate bytes g s name params args body e)) h
 
 -- ---- all statements
 step_defined : (bytes : List ℕ) (g : Gates) (s : Statement) (ss : List Statement) → all_defined bytes g (s ∷ ss) ≡ and_then (all_defined bytes g (s ∷ [])) (λ x. all_defined bytes x ss)
@@ -66,7 +66,7 @@ Defining bytes g0 ss g i = all_defined bytes g0 ss ≡ all_defined bytes g (drop
 pub defining_more : (bytes : List ℕ) (g0 g new : Gates) (ss : List Statement) (s : Statement) (i : ℕ) → Defining bytes g0 ss g i → i < length ss → s ≡ get_or ss i s → Ok new ≡ all_defined bytes g (s ∷ []) → Defining bytes g0 ss new (i + 1)
 defining_more bytes g0 g new ss s i w h e t =
     w ∙ ap (all_defined bytes g) (drop_more ss i s h) ∙ step_defined bytes g (get_or ss i s) (drop (i + 1) ss)
-      ∙ ap (λ z. and_then (all_defined bytes g (z ∷ [])) (λ x. all_defined bytes x (drop (i + 1) ss))) (sym e) ∙ ap (λ z. and_then z (λ x. all_defined bytes x (drop (i + 1) ss))) (sym t)
+    ∙ ap (λ z. and_then (all_defined bytes g (z ∷ [])) (λ x. all_defined bytes x (drop (i + 1) ss))) (sym e) ∙ ap (λ z. and_then z (λ x. all_defined bytes x (drop (i + 1) ss))) (sym t)
 
 pub defining_end : (bytes : List ℕ) (g0 g : Gates) (ss : List Statement) (i : ℕ) → Defining bytes g0 ss g i → length ss ≤ i → Ok g ≡ all_defined bytes g0 ss
 unfolding all_defined
@@ -76,7 +76,7 @@ pub defining_fault : (bytes : List ℕ) (g0 g new : Gates) (ss : List Statement)
     → Became {A = Unit {0}} (Err f) new (λ z. z ≡ all_defined bytes g (s ∷ [])) → Became {A = Unit {0}} (Err f) new (λ z. z ≡ all_defined bytes g0 ss)
 defining_fault bytes g0 g new ss s i (Fault name at) w h e t =
     sym (w ∙ ap (all_defined bytes g) (drop_more ss i s h) ∙ step_defined bytes g (get_or ss i s) (drop (i + 1) ss)
-      ∙ ap (λ z. and_then (all_defined bytes g (z ∷ [])) (λ x. all_defined bytes x (drop (i + 1) ss))) (sym e) ∙ ap (λ z. and_then z (λ x. all_defined bytes x (drop (i + 1) ss))) (sym t))
+    ∙ ap (λ z. and_then (all_defined bytes g (z ∷ [])) (λ x. all_defined bytes x (drop (i + 1) ss))) (sym e) ∙ ap (λ z. and_then z (λ x. all_defined bytes x (drop (i + 1) ss))) (sym t))
 defining_fault bytes g0 g new ss s i Memory w h e t = tt
 
 -- what is kept or added is sound
@@ -152,7 +152,6 @@ library_sound st new g made ss s d k gates names n = subst IsSound (sym n) (reco
   within = s.within;
   few = s.few;
 })
-
 
 -- whether the library is there
 shelf_of : (l : Option Shelf) → is_some l ≡ true → (s : Shelf) × (l ≡ Some s)

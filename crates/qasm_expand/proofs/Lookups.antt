@@ -46,6 +46,7 @@ place_of_keys (k ∷ ks) name = by (bytes_eq name k.items) (position_or_len (λ 
     after : (b : Bool) (n m : ℕ) → (b ≡ true → 1 + n < m + 1) → (b ≡ false → m + 1 ≤ 1 + n) → cond (nat_lt (1 + n) (m + 1)) (Some (1 + n)) None ≡ option_map suc (cond b (Some n) None)
     after true n m h g = ap (λ c. cond c (Some (1 + n)) None) (lt-ltb _ _ (h refl)) ∙ ap Some (let e : 1 + n ≡ suc n = omega arith in e)
     after false n m h g = ap (λ c. cond c (Some (1 + n)) None) (le-ltb _ _ (g refl))
+
     by : (b : Bool) (n : ℕ) → cond (nat_lt (cond (not b) (1 + n) 0) (length (k ∷ ks))) (Some (cond (not b) (1 + n) 0)) None ≡ (if b then Some 0 else option_map suc (cond (nat_lt n (length ks)) (Some n) None))
     by true n = ap (λ c. cond c (Some 0) None) (lt-ltb 0 (length (k ∷ ks)) (omega arith))
     by false n = ap (λ c. cond (nat_lt (1 + n) c) (Some (1 + n)) None) (let e : length (k ∷ ks) ≡ length ks + 1 = omega arith in e) ∙ after (nat_lt n (length ks)) n (length ks) (λ e. let h : n < length ks = ltb-true _ _ e in omega (arith, h)) (λ e. let h : length ks ≤ n = ltb-false _ _ e in omega (arith, h))
@@ -58,6 +59,7 @@ new_of_keys (k ∷ ks) name = ap (λ b. not (b || list_any (λ (k : Vec ℕ Glob
     none : (o : Option ℕ) → is_none o ≡ is_none (option_map suc o)
     none None = refl
     none (Some i) = refl
+
     by : (b : Bool) → not (list_any (λ (k : Vec ℕ Global). bytes_eq name k.items) ks) ≡ is_none (place_of (map vec_items ks) name) → not (b || list_any (λ (k : Vec ℕ Global). bytes_eq name k.items) ks) ≡ is_none (if b then Some 0 else option_map suc (place_of (map vec_items ks) name))
     by true ih = refl
     by false ih = ih ∙ none (place_of (map vec_items ks) name)

@@ -77,7 +77,7 @@ module _ (defs : List Def) (f f' : Frame) (fs : List Frame) (i : Inner) (ev : f'
   pub left_before : (gs : List Prim) (r : Result (List Prim) Broken) → Comes defs f.values.items (call i.gate i.params) (Ok gs) → Left defs (f' ∷ fs) r → Left defs (f ∷ fs) (joined (all_on f.places.items (all_on i.args gs)) r)
   left_before gs r c (one_done {gs = hs} {r = s} h k) =
       let e : joined (all_on f.places.items (all_on i.args gs ++ hs)) s ≡ joined (all_on f.places.items (all_on i.args gs)) (joined (all_on f'.places.items hs) s) =
-        joined_on f.places.items (all_on i.args gs) hs s ∙ ap (λ ps. joined (all_on f.places.items (all_on i.args gs)) (joined (all_on ps hs) s)) (sym ep) in
+      joined_on f.places.items (all_on i.args gs) hs s ∙ ap (λ ps. joined (all_on f.places.items (all_on i.args gs)) (joined (all_on ps hs) s)) (sym ep) in
       subst (λ z. Left defs (f ∷ fs) z) e (one_done (back (Ok (all_on i.args gs ++ hs)) (applied c (moved (Ok hs) h))) k)
   left_before gs r c (one_stops {x = x} h) = one_stops (back (Err (Inside x)) (applied c (moved (Err (Inside x)) h)))
 

@@ -52,7 +52,7 @@ push op ops ih (suc (suc zero)) w le [] m h = absurd (omega (arith, m))
 push op ops ih (suc (suc zero)) w le (b ∷ []) m h = absurd (omega (arith, m))
 push op ops ih (suc (suc zero)) w le (b ∷ (a ∷ st)) m h =
     let e : (spine st ++ (postfix a ++ (postfix b ++ (op ∷ [])))) ++ ops ≡ ((spine st ++ postfix a) ++ postfix b) ++ (op ∷ ops) =
-        ap (λ x. x ++ ops) (sym (append_assoc (spine st) (postfix a) (postfix b ++ (op ∷ []))) ∙ sym (append_assoc (spine st ++ postfix a) (postfix b) (op ∷ []))) ∙ append_assoc ((spine st ++ postfix a) ++ postfix b) (op ∷ []) ops in
+    ap (λ x. x ++ ops) (sym (append_assoc (spine st) (postfix a) (postfix b ++ (op ∷ []))) ∙ sym (append_assoc (spine st ++ postfix a) (postfix b) (op ∷ []))) ∙ append_assoc ((spine st ++ postfix a) ++ postfix b) (op ∷ []) ops in
     subst IsExpression e (ih (two op w a b ∷ st) (ap (leaves_one ops) (let f : length (two op w a b ∷ st) ≡ length (b ∷ (a ∷ st)) + 1 - 2 = omega arith in f) ∙ h))
 push op ops ih (suc (suc (suc n))) w le st m h = absurd (omega (arith, le))
 

@@ -48,7 +48,7 @@ follow_more from (s ∷ rs) r h f =
     let q = both (nat_lt 0 s.size) (registers_follow (from + qubits_in s) rs) p.1 in
     let e : from + (qubits_in s + qubit_count rs) ≡ (from + qubits_in s) + qubit_count rs = omega arith in
     join (nat_eq s.first (if s.quantum then from else 0)) (nat_lt 0 s.size && registers_follow (from + qubits_in s) (rs ++ r ∷ [])) p.0
-      (join (nat_lt 0 s.size) (registers_follow (from + qubits_in s) (rs ++ r ∷ [])) q.0 (follow_more (from + qubits_in s) rs r q.1 (subst (λ z. Follows z r) e f)))
+    (join (nat_lt 0 s.size) (registers_follow (from + qubits_in s) (rs ++ r ∷ [])) q.0 (follow_more (from + qubits_in s) rs r q.1 (subst (λ z. Follows z r) e f)))
 
 abbrev pub declared : List ℕ → Bool → ℕ → ℕ → Register
 declared name quantum count size = record { name = name; quantum = quantum; first = if quantum then count else 0; size = size }

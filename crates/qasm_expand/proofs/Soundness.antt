@@ -109,12 +109,15 @@ different seen (q ∷ qs) (p ∷ ps) l e = by (is_among q seen) refl (different 
   where
     self : (b : Bool) → b ≡ true → (if b then true else is_among q seen) ≡ true
     self b h = ap (λ b. if b then true else is_among q seen) h
+
     old : (x : ℕ) → is_among x seen ≡ true → (b : Bool) → (if b then true else is_among x seen) ≡ true
     old x h true = refl
     old x h false = h
+
     new : (x : ℕ) → is_among x seen ≡ true → is_among q seen ≡ false → is_among x qs ≡ false → (b : Bool) → nat_eq x q ≡ b → (if b then true else is_among x qs) ≡ false
     new x h n i true t = absurd (true≢false (sym h ∙ ap (λ y. is_among y seen) (eqb-true x q t) ∙ n))
     new x h n i false t = i
+
     by : (b : Bool) → is_among q seen ≡ b → (first_repeated (q ∷ seen) qs ps ≡ None → (all_different qs ≡ true) × ((x : ℕ) → is_among x (q ∷ seen) ≡ true → is_among x qs ≡ false)) → (if b then Some p else first_repeated (q ∷ seen) qs ps) ≡ None → (all_different (q ∷ qs) ≡ true) × ((x : ℕ) → is_among x seen ≡ true → is_among x (q ∷ qs) ≡ false)
     by true n rest g = absurd (cc)
     by false n rest g =
@@ -201,6 +204,7 @@ inner_is_sound bytes defs bound params args c i h within e =
     subst (λ y. inner_sound defs (length params) (length args) y ≡ true) k
     (both_and (called_earlier (length defs) bytes bound c.gate c.at g.0 h g.1) (both_and (ap (λ m. nat_eq m (params_of defs g.0)) xs.1 ∙ n.0) (both_and xs.0
     (both_and (ap (λ m. nat_eq m (args_of defs g.0)) (ps.1 ∙ length-map c.args (λ a. a.name)) ∙ n.1) (both_and ps.0 (different [] q.0 (arg_names c.args) ps.1 d.0).0)))))
+
 pub body_is_sound : (bytes : List ℕ) (defs : List Def) (bound : List Bound) (params args : List (List ℕ)) (ss : List Stated) (is : List Inner) → bound_sound (length defs) bound ≡ true → All (InnerIn bytes) ss → body_of bytes defs bound params args ss ≡ Ok is → body_sound defs (length params) (length args) is ≡ true
 unfolding body_of body_sound
 body_is_sound bytes defs bound params args [] is h within e = let k : [] ≡ is = cc in subst (λ y. body_sound defs (length params) (length args) y ≡ true) k refl
@@ -224,6 +228,7 @@ def_is_sound bytes defs bound params args ss d h within e =
     let w = p.2 in let k : made defs params args p.0 ≡ d = cc in
     let s = body_is_sound bytes defs bound (names bytes params) (names bytes args) ss p.0 h within p.1 in
     subst (λ y. def_sound defs y ≡ true) k (both_and (subst₂ (λ m n. body_sound defs m n p.0 ≡ true) (length-map params (spelled bytes)) (length-map args (spelled bytes)) s) (eq-eqb (body_size defs p.0) (body_size defs p.0) refl))
+
 -- ---- lists of gates and of names
 defs_from : (before : List Def) (ds : List Def) (d : Def) → defs_sound_from before ds ≡ true → def_sound (before ++ ds) d ≡ true → defs_sound_from before (ds ++ d ∷ []) ≡ true
 unfolding defs_sound_from

@@ -126,9 +126,12 @@ module _ (defs : List Def) (f f' : Frame) (S : List Frame) (out : List Prim) (g 
   pub step_body : (mid new : List Frame) (b : Frame) → mid ≡ S ++ (f' ∷ []) → new ≡ mid ++ (b ∷ []) → Opens defs f i b → Steps defs (S ++ (f ∷ [])) new out out (Ok tt)
   step_body mid new b e m o =
       let fit = step_fits defs f g i body sound there gate same lt read in
-      let t : reverse new ≡ b ∷ (f' ∷ reverse S) = flip new mid b m ∙ ap (λ fs. b ∷ fs) (flip mid S f' e) in
-      ([], sym (append-nil out), λ r h. onto_old _ (subst (λ z. Left defs (f ∷ reverse S) z) (sym (joined_none r))
-        (left_opened defs f f' (reverse S) i (ap (λ h. h.values.items) moves) (ap (λ h. h.places.items) moves) cons b r sound fit.takes o (subst (λ fs. Left defs fs r) t h))))
+      let t : reverse new ≡ b ∷ (f' ∷ reverse S) = flip new mid b m ∙ ap (λ fs. b ∷ fs) (flip mid S f' e) in (
+        [],
+        sym (append-nil out),
+        λ r h. onto_old _ (subst (λ z. Left defs (f ∷ reverse S) z) (sym (joined_none r))
+            (left_opened defs f f' (reverse S) i (ap (λ h. h.values.items) moves) (ap (λ h. h.places.items) moves) cons b r sound fit.takes o (subst (λ fs. Left defs fs r) t h))),
+      )
 
   pub step_off : (new : List Frame) (made : List Prim) (x : AngleFault) → unless_memory x ((b : Broken) × (fault_of b ≡ x) × Comes defs f.values.items (call i.gate i.params) (Err b)) → Steps defs (S ++ (f ∷ [])) new out made (Err x)
   step_off new made x h = unless_map _ _ x (λ (a : (b : Broken) × (fault_of b ≡ x) × Comes defs f.values.items (call i.gate i.params) (Err b)). onto_old (Err (Inside x)) (left_broken defs f f' (reverse S) i (ap (λ h. h.values.items) moves) (ap (λ h. h.places.items) moves) cons a.0 x a.1 a.2)) h

@@ -19,7 +19,7 @@ use crate::defs::{Called, Def, Defs, Inner};
 use crate::frame::{Frame, Outcome};
 use ps_prim::Prim;
 use ps_ring::Angle;
-use qasm_angle::{angle, value, AngleFault, Expr, Pair};
+use qasm_angle::{AngleFault, Expr, Pair, angle, value};
 use qasm_parse::Formula;
 use std::alloc::{AllocError, Global};
 
@@ -208,12 +208,7 @@ fn controlled(frame: &Frame, inner: &Inner) -> Prim
 }
 
 /// What an application in a frame comes to.
-fn outcome(
-    alloc: Global,
-    defs: &[Def],
-    frame: &Frame,
-    inner: &Inner,
-) -> Result<Outcome, AngleFault>
+fn outcome(alloc: Global, defs: &[Def], frame: &Frame, inner: &Inner) -> Result<Outcome, AngleFault>
     requires frame { FrameFits defs.now frame.now }
     requires inner { InnerFits defs.now frame.now.def (args_of defs.now (ADef frame.now.def)) inner.now }
     ensures { Does defs.now frame.now inner.now result }

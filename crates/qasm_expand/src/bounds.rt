@@ -43,12 +43,7 @@ impl Bounds {
     }
 
     /// Binds a name to a gate.
-    pub(crate) fn rebind(
-        &mut self,
-        alloc: Global,
-        name: &[u8],
-        def: u32,
-    ) -> Result<(), AllocError>
+    pub(crate) fn rebind(&mut self, alloc: Global, name: &[u8], def: u32) -> Result<(), AllocError>
         ensures bound { OnOk result (self.new ≡ rebound self.old name.now def) }
     {
         self.table.insert(name.to_vec(alloc)?, def)?;

@@ -7,8 +7,8 @@ ghost use Rattle.qasm_expand.specs.Statements.{declared_as};
 
 use crate::fault::{FaultName, ReadFault};
 use crate::numbers::number;
-use crate::spelling::{fault, spelled};
 use crate::registers::Extent;
+use crate::spelling::{fault, spelled};
 use crate::state::State;
 use qasm_parse::Span;
 use std::alloc::Global;

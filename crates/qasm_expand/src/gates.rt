@@ -142,7 +142,9 @@ fn body_of(
 {
     let mut list = Vec::new(alloc);
     for statement in body {
-        stated(alloc, bytes, defs, bound, params, args, &mut list, statement)?;
+        stated(
+            alloc, bytes, defs, bound, params, args, &mut list, statement,
+        )?;
     }
     Ok(Body::from_vec(list))
 }

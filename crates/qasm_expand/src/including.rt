@@ -139,7 +139,13 @@ pub fn include(alloc: Global, state: &mut State) -> Result<(), ReadFault>
     };
     let from = count(state.defs.as_slice().len())?;
     let mut names = Bounds::new(alloc);
-    match define_all(alloc, bytes, &mut state.defs, &mut names, program.statements()) {
+    match define_all(
+        alloc,
+        bytes,
+        &mut state.defs,
+        &mut names,
+        program.statements(),
+    ) {
         Ok(()) => {}
         Err(fault) => return Err(fault),
     }

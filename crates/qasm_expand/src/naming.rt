@@ -16,12 +16,7 @@ use qasm_parse::{Arg, Formula, Span};
 use std::alloc::{AllocError, Global};
 
 /// The place of a name among formal ones.
-fn place(
-    bytes: &[u8],
-    formals: &Formals,
-    missing: FaultName,
-    at: Span,
-) -> Result<u32, ReadFault>
+fn place(bytes: &[u8], formals: &Formals, missing: FaultName, at: Span) -> Result<u32, ReadFault>
     requires { SpanIn bytes.now at }
     ensures { Known result (λ r. r ≡ or_fault missing at (place_of formals.now (spelled_by bytes.now at))) }
 {

@@ -24,7 +24,7 @@ returns-in-Err c = whole_off c.args.defs.now c.args.first c.loop-frame.stack.ite
 pub returns : goal.returns
 returns c =
     let k : MatchOption None (vec_len c.loop-frame.stack ≡ 0 × vec_len c.pop.new.self ≡ 0) (λ (x : Frame). vec_len c.pop.new.self + 1 ≡ vec_len c.loop-frame.stack) =
-      subst (λ o. MatchOption o (vec_len c.loop-frame.stack ≡ 0 × vec_len c.pop.new.self ≡ 0) (λ (x : Frame). vec_len c.pop.new.self + 1 ≡ vec_len c.loop-frame.stack)) c.in_default.is c.pop.ensures.cases in
+    subst (λ o. MatchOption o (vec_len c.loop-frame.stack ≡ 0 × vec_len c.pop.new.self ≡ 0) (λ (x : Frame). vec_len c.pop.new.self + 1 ≡ vec_len c.loop-frame.stack)) c.in_default.is c.pop.ensures.cases in
     let m : vec_len c.loop-frame.stack ≡ length c.loop-frame.stack.items = search rules in
     let n : length c.loop-frame.stack.items ≡ 0 = sym m ∙ k.0 in
     whole_end c.args.defs.now c.args.first c.loop-frame.stack.items c.loop-frame.out.items c.loop-frame.invariant.rest (no_frames c.loop-frame.stack.items n)

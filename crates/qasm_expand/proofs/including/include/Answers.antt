@@ -27,22 +27,22 @@ returns-in-Err-define_all-clause-included c =
     let st = c.args.state.now in
     let h : TextIs library_text (Ok c.statements.result.now) = text_of c.text-bytes.result.now c.in-Ok.program c.statements.result.now c.text-bytes.ensures.same c.statements.ensures c.in-Ok.ensures.reads in
     defining_faulty st _ (record { defs = st.defs; bound = c.new-names.result }) (record { defs = c.define_all.new.defs; bound = c.define_all.new.bound }) c.statements.result.now c.in-Err-define_all.fault (none_of_shelf st (sym c.is_some.ensures ∙ c.if-is_some.false)) h
-      (ap (λ (z : List Bound). record { defs = st.defs; bound = z }) c.new-names.ensures) (fault_by c.text-bytes.result.now _ _ _ c.in-Err-define_all.fault c.text-bytes.ensures.same c.in-Err-define_all.ensures.defined)
+    (ap (λ (z : List Bound). record { defs = st.defs; bound = z }) c.new-names.ensures) (fault_by c.text-bytes.result.now _ _ _ c.in-Err-define_all.fault c.text-bytes.ensures.same c.in-Err-define_all.ensures.defined)
 
 pub returns-clause-included : goal.returns-clause-included
 returns-clause-included c =
     let st = c.args.state.now in
     let h : TextIs library_text (Ok c.statements.result.now) = text_of c.text-bytes.result.now c.in-Ok.program c.statements.result.now c.text-bytes.ensures.same c.statements.ensures c.in-Ok.ensures.reads in
     all_included st _ (record { defs = st.defs; bound = c.new-names.result }) (record { defs = c.define_all.new.defs; bound = c.define_all.new.bound }) c.statements.result.now (none_of_shelf st (sym c.is_some.ensures ∙ c.if-is_some.false)) h
-      (ap (λ (z : List Bound). record { defs = st.defs; bound = z }) c.new-names.ensures)
-      (c.in-Ok-define_all.ensures.defined ∙ ap (λ z. all_defined z (record { defs = st.defs; bound = c.new-names.result }) c.statements.result.now) c.text-bytes.ensures.same)
-      (shelved st c.define_all.new.defs c.define_all.new.bound c.keep_all.new.self c.in_ok-from.from c.in_ok-to.to c.in_ok-keep_all.ensures.bound (c.in_ok-from.ensures ∙ ap length c.as_slice.ensures) (c.in_ok-to.ensures ∙ ap length c.as_slice-2.ensures))
+    (ap (λ (z : List Bound). record { defs = st.defs; bound = z }) c.new-names.ensures)
+    (c.in-Ok-define_all.ensures.defined ∙ ap (λ z. all_defined z (record { defs = st.defs; bound = c.new-names.result }) c.statements.result.now) c.text-bytes.ensures.same)
+    (shelved st c.define_all.new.defs c.define_all.new.bound c.keep_all.new.self c.in_ok-from.from c.in_ok-to.to c.in_ok-keep_all.ensures.bound (c.in_ok-from.ensures ∙ ap length c.as_slice.ensures) (c.in_ok-to.ensures ∙ ap length c.as_slice-2.ensures))
 
 pub returns-clause-sound : goal.returns-clause-sound
 returns-clause-sound c =
     let st = c.args.state.now in
     library_sound st _ (record { defs = st.defs; bound = c.new-names.result }) (record { defs = c.define_all.new.defs; bound = c.define_all.new.bound }) c.statements.result.now c.requires.sound
-      (ap (λ (z : List Bound). record { defs = st.defs; bound = z }) c.new-names.ensures)
-      (c.in-Ok-define_all.ensures.defined ∙ ap (λ z. all_defined z (record { defs = st.defs; bound = c.new-names.result }) c.statements.result.now) c.text-bytes.ensures.same)
-      c.in-Ok-define_all.ensures.gates c.in-Ok-define_all.ensures.names
-      (shelved st c.define_all.new.defs c.define_all.new.bound c.keep_all.new.self c.in_ok-from.from c.in_ok-to.to c.in_ok-keep_all.ensures.bound (c.in_ok-from.ensures ∙ ap length c.as_slice.ensures) (c.in_ok-to.ensures ∙ ap length c.as_slice-2.ensures))
+    (ap (λ (z : List Bound). record { defs = st.defs; bound = z }) c.new-names.ensures)
+    (c.in-Ok-define_all.ensures.defined ∙ ap (λ z. all_defined z (record { defs = st.defs; bound = c.new-names.result }) c.statements.result.now) c.text-bytes.ensures.same)
+    c.in-Ok-define_all.ensures.gates c.in-Ok-define_all.ensures.names
+    (shelved st c.define_all.new.defs c.define_all.new.bound c.keep_all.new.self c.in_ok-from.from c.in_ok-to.to c.in_ok-keep_all.ensures.bound (c.in_ok-from.ensures ∙ ap length c.as_slice.ensures) (c.in_ok-to.ensures ∙ ap length c.as_slice-2.ensures))

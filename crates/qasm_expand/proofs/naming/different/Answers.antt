@@ -23,9 +23,11 @@ loop-i-preserved c =
     let places = c.args.places.now in let args = c.args.args.now in let i = c.loop-i.i in let keys = c.loop-i.seen.keys in let v = c.loop-i.invariant in
     let q = get_or places i 0 in let a = get_or args i (record { name = record { from = 0; to = 0 }; index = None }) in
     let n : list_any (nat_eq q) keys ≡ false = not_true _ (sym c.in_ok-insert.ensures.added ∙ c.if-not-branch.false) in
-    let h : i < length args = omega (arith, c.requires, c.loop-i-test.true) in
-    (q ∷ v.0, subst (λ (ks : List ℕ). Seen (q ∷ v.0) ks) (sym c.in_ok-insert.ensures.keys) (seen_more v.0 keys q v.1 n),
-     repeated_next v.0 keys q a.name (drop i places) (drop (i + 1) places) (arg_names (drop i args)) (arg_names (drop (i + 1) args)) (first_repeated [] places (arg_names args)) v.1 n (dropped places i 0 c.loop-i-test.true) (ap arg_names (dropped args i _ h)) v.2)
+    let h : i < length args = omega (arith, c.requires, c.loop-i-test.true) in (
+      q ∷ v.0,
+      subst (λ (ks : List ℕ). Seen (q ∷ v.0) ks) (sym c.in_ok-insert.ensures.keys) (seen_more v.0 keys q v.1 n),
+      repeated_next v.0 keys q a.name (drop i places) (drop (i + 1) places) (arg_names (drop i args)) (arg_names (drop (i + 1) args)) (first_repeated [] places (arg_names args)) v.1 n (dropped places i 0 c.loop-i-test.true) (ap arg_names (dropped args i _ h)) v.2,
+    )
 
 pub returns : goal.returns
 returns c =
