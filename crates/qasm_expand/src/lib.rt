@@ -34,3 +34,6 @@ pub use fault::{FaultName, ReadFault};
 pub use item_list::Items;
 pub use registers::{Extent, Registers};
 pub use tables::{Circuit, Table};
+
+#[cfg(test)]
+mod tests;
