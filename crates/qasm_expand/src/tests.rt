@@ -96,20 +96,19 @@ fn has_fault(alloc: Global, text: &[u8], name: FaultName, offset: u32) -> bool {
     }
 }
 
-// How many of the rows are told as they ought to be.
-fn told(alloc: Global) -> usize {
-    let mut count = 0;
+// Whether each row is told as it ought to be.
+fn told(alloc: Global) -> bool {
     for (text, name, offset) in FAULTS {
-        if has_fault(alloc, text, *name, *offset) {
-            count += 1;
+        if !has_fault(alloc, text, *name, *offset) {
+            return false;
         }
     }
-    count
+    true
 }
 
 #[test]
 fn each_fault_is_told(rt: HostRuntime) -> Result<(), Fail> {
-    assert_eq!(rt; told(rt.alloc()), 28);
+    assert!(rt; told(rt.alloc()));
     Ok(())
 }
 
@@ -164,19 +163,18 @@ fn has_items(alloc: Global, text: &[u8], qubits: u32, counts: &[usize]) -> bool 
     true
 }
 
-// How many of the rows come to what they ought to.
-fn read(alloc: Global) -> usize {
-    let mut count = 0;
+// Whether each row comes to what it ought to.
+fn read(alloc: Global) -> bool {
     for (text, qubits, counts) in CIRCUITS {
-        if has_items(alloc, text, *qubits, counts) {
-            count += 1;
+        if !has_items(alloc, text, *qubits, counts) {
+            return false;
         }
     }
-    count
+    true
 }
 
 #[test]
 fn texts_come_to_their_items(rt: HostRuntime) -> Result<(), Fail> {
-    assert_eq!(rt; read(rt.alloc()), 7);
+    assert!(rt; read(rt.alloc()));
     Ok(())
 }
