@@ -34,7 +34,7 @@ use Rattle.ps_join.proofs.NamedParts.{name_of_own, name_past, name_front}
 clash : {b : Bool} → b ≡ true → b ≡ false → ⊥
 clash e f = cc
 
-never : (r s : Bool) → (r ≡ true → s ≡ true) → s ≡ false → r ≡ false
+pub never : (r s : Bool) → (r ≡ true → s ≡ true) → s ≡ false → r ≡ false
 never true s h e = sym (h refl) ∙ e
 never false s h e = refl
 
@@ -265,11 +265,11 @@ one_input (x ∷ []) m k r i l e d f = (λ t. ap (λ (z : List ℕ). z ∷ []) (
     heads g = cc
 
 -- where no variable from v on stands in p
-idle_chain : (fs : List (List (List ℕ))) (v : ℕ) (p : List (List ℕ)) → IsPoly p → ((u : ℕ) → v ≤ u → occurs u p ≡ false) → length p ≤ 65536 → Chain (List (List ℕ)) raw_bool BoolAfter v fs p None
+pub idle_chain : (fs : List (List (List ℕ))) (v : ℕ) (p : List (List ℕ)) → IsPoly p → ((u : ℕ) → v ≤ u → occurs u p ≡ false) → length p ≤ 65536 → Chain (List (List ℕ)) raw_bool BoolAfter v fs p None
 idle_chain [] v p h f l = refl
 idle_chain (g ∷ fs) v p h f l = let e : raw_bool v (length g) p ≡ length p = idle_bool_count v (length g) p (f v (omega arith)) in inr (omega arith, (p, (idle_bool v g p h (f v (omega arith)), idle_chain fs (suc v) p h (λ u k. f u (omega arith)) l)))
 
-own_count : (w t : ℕ) → raw_bool w t ((w ∷ []) ∷ []) ≡ t
+pub own_count : (w t : ℕ) → raw_bool w t ((w ∷ []) ∷ []) ≡ t
 unfolding raw_bool stands
 own_count w t = rw (nat_eq_same w) (omega arith)
 

@@ -43,3 +43,7 @@ pub record Placed (fs : List (List (List ℕ))) (qs : List (Option (List (List �
 pub record IsParts (S1 S2 : PathSum) (phase : List Term) (outs : List (Option (List (List ℕ)))) : Type 0 where
   pub phase_part : PhasePart S1.n S1.m S2.m S1.outs S2.phase phase
   pub outs_part : OutputParts S1.n S1.m S2.m S1.outs S2.outs outs
+
+-- g is the sum of two inputs below n, the lesser first
+abbrev pub IsPair : ℕ → List (List ℕ) → ℕ → ℕ → Type 0
+IsPair n g i j = (g ≡ (i ∷ []) ∷ (j ∷ []) ∷ []) × ((i < j) × (j < n))

@@ -1,4 +1,4 @@
-ghost use Rattle.std.specs.Prelude.{◌≡◌, ℕ, ◌<◌, ◌≤◌, ◌+◌, ◌%◌, Bool, true, false, not, nat_eq, ◌&&◌, ◌||◌, ◌↔◌, Option, Some, None, [], ◌∷◌, length, get_or, IsTrue, IfOk, IfErr, OnOk};
+ghost use Rattle.std.specs.Prelude.{◌≡◌, ℕ, ◌<◌, ◌≤◌, ◌+◌, ◌%◌, Bool, true, false, not, nat_eq, ◌&&◌, ◌||◌, ◌↔◌, Option, Some, None, [], ◌∷◌, length, get_or, IsTrue, IfOk, IfErr, IfSome, OnOk};
 ghost use Rattle.ps_bool.specs.Polys.{occurs, IsPoly};
 ghost use Rattle.ps_phase.specs.Phases.{phase_occurs, IsPhasePoly};
 ghost use Rattle.ps_sum.specs.Counts.{raw_phase as raw_phase_count, raw_bool as raw_bool_count};
@@ -6,7 +6,7 @@ ghost use Rattle.ps_sum.specs.Forms.{AllPolys};
 ghost use Rattle.ps_sum.specs.Outs.{outs_occur};
 ghost use Rattle.ps_join.specs.Joining.{PhaseAfter, BoolAfter, PhaseChain, OutputChain, OutputChains, told};
 ghost use Rattle.ps_join.specs.Faults.{IsOver, IsChainFault};
-ghost use Rattle.ps_join.specs.Parts.{PhasePart, BoolPart, OutputPart, OutputParts};
+ghost use Rattle.ps_join.specs.Parts.{PhasePart, BoolPart, OutputPart, OutputParts, IsPair};
 
 use super::naming::{Names, bool_support, named_bool, named_phase, phase_support};
 use ps_bool::BoolPoly;
@@ -17,6 +17,9 @@ use std::alloc::{AllocError, Global};
 
 /// The most terms that one replacement may make, before any are added.
 const MOST_TERMS: u64 = 65_536;
+
+// Two polynomials with fewer monomials than this make a sum within the limit.
+const SHORT: u64 = 32_768;
 
 // Counts are told as this number where they are above it.
 const CAP: u64 = 1_000_000_000_000;
@@ -167,6 +170,52 @@ fn is_input(poly: &BoolPoly, i: u16) -> bool
     poly.count() == 1 && *poly.mono(0) == Mono::var(i)
 }
 
+// The two inputs below `n` whose sum the polynomial is, the lesser first.
+fn two_inputs(poly: &BoolPoly, n: u16) -> Option<(u16, u16)>
+    ensures { IfSome result (λ p. IsPair n poly.now p.0 p.1) }
+{
+    if poly.count() != 2 {
+        return None;
+    }
+    let first = poly.mono(0);
+    let second = poly.mono(1);
+    if first.degree() != 1 || second.degree() != 1 {
+        return None;
+    }
+    let low = first.var_at(0);
+    let high = second.var_at(0);
+    if low < high && high < n {
+        Some((low, high))
+    } else {
+        None
+    }
+}
+
+// The sum of two outputs of the first sum, where an output of the second is that of two inputs and both
+// are short; `None` else.
+fn added_outputs(
+    names: &Names,
+    poly: &BoolPoly,
+    outs: &[BoolPoly],
+) -> Result<Option<BoolPoly>, AllocError>
+    requires wide { length outs.now ≡ names.now.n }
+    requires outs_below { (v : ℕ) → names.now.n + names.now.m1 ≤ v → outs_occur v outs.now ≡ false }
+    requires formed { AllPolys outs.now }
+    ensures part { IfOk result (λ r. IfSome r (λ q. BoolPart names.now.n names.now.m1 names.now.m2 outs.now poly.now q)) }
+    ensures fits { IfOk result (λ r. IfSome r (λ q. OutputChain names.now.n names.now.m1 names.now.m2 outs.now poly.now None)) }
+{
+    let Some((low, high)) = two_inputs(poly, names.n) else {
+        return Ok(None);
+    };
+    let first = &outs[low as usize];
+    let second = &outs[high as usize];
+    if first.count() < SHORT && second.count() < SHORT {
+        let sum = first.xor(second)?;
+        return Ok(Some(sum));
+    }
+    Ok(None)
+}
+
 // Output `i` of the second sum, as `replaced_bool` gives it; `None` where it is its input, so that
 // the first's output stays. Such an output is not looked at further: of its replacements only that
 // of its input makes more than one term, and those are the terms of the first's output.
@@ -192,6 +241,10 @@ fn replaced_output(
             Ok(()) => Ok(None),
             Err(fault) => Err(fault),
         };
+    }
+    match added_outputs(names, poly, outs)? {
+        Some(output) => return Ok(Some(output)),
+        None => {}
     }
     match replaced_bool(alloc, names, poly, outs) {
         Ok(output) => Ok(Some(output)),

@@ -12,3 +12,4 @@ pub mod Mapped
 pub mod Quotients
 pub mod Takes
 pub mod Replaces
+pub mod Gathers

@@ -105,7 +105,7 @@ or_move : (p q r : Bool) → ((p || q) || r) ≡ (p || (q || r))
 or_move true q r = refl
 or_move false q r = refl
 
-occurs_push : (v : ℕ) (f : List (List ℕ)) (m : List ℕ) → occurs v (f ++ m ∷ []) ≡ (occurs v f || stands v m)
+pub occurs_push : (v : ℕ) (f : List (List ℕ)) (m : List ℕ) → occurs v (f ++ m ∷ []) ≡ (occurs v f || stands v m)
 unfolding occurs
 occurs_push v [] m = or_none (stands v m)
 occurs_push v (k ∷ f) m = ap (λ b. stands v k || b) (occurs_push v f m) ∙ sym (or_move (stands v k) (occurs v f) (stands v m))
@@ -123,7 +123,7 @@ poly_more p f base i m ys l e h =
 pub poly_end : (p : ℕ → Bool) (g f : List (List ℕ)) (base i : ℕ) (xs : List Sight) → f ≡ g → length f ≤ i → EachSight (λ v s. IsFresh (p v || occurs v (take i f)) s) base xs → EachSight (λ v s. IsFresh (p v || occurs v g) s) base xs
 poly_end p g f base i xs eg l h = subst (λ (r : List (List ℕ)). EachSight (λ v s. IsFresh (p v || occurs v r) s) base xs) (take_all i f l ∙ eg) h
 
-outs_push : (v : ℕ) (fs : List (List (List ℕ))) (f : List (List ℕ)) → outs_occur v (fs ++ f ∷ []) ≡ (outs_occur v fs || occurs v f)
+pub outs_push : (v : ℕ) (fs : List (List (List ℕ))) (f : List (List ℕ)) → outs_occur v (fs ++ f ∷ []) ≡ (outs_occur v fs || occurs v f)
 unfolding outs_occur
 outs_push v [] f = or_none (occurs v f)
 outs_push v (g ∷ fs) f = ap (λ b. occurs v g || b) (outs_push v fs f) ∙ sym (or_move (occurs v g) (outs_occur v fs) (occurs v f))

@@ -74,7 +74,7 @@ fn pairs_with(sight: &Sight, n: u16, y0: u16, y1: u16) -> bool
 }
 
 // What the sum's terms say of path variable `y`.
-fn sight_of(sum: &PathSum, y: u16) -> Sight
+pub fn sight_of(sum: &PathSum, y: u16) -> Sight
     requires { y < sum.now.m }
     ensures { Seen (sum.now.n + y) sum.now.outs sum.now.phase result }
 {

@@ -2,11 +2,16 @@ ghost use Rattle.std.specs.Prelude.{◌≡◌, ℕ, ◌<◌, ◌≤◌, ◌+◌,
 ghost use Rattle.ps_rules.specs.Rules.{FirstStep, IsIrreducible};
 ghost use Rattle.ps_rules.specs.Sights.{Seen, IsFresh, EachSight, NoneFrom, FirstFrom};
 
+use super::checking::sight_of;
 use super::choosing::step_at;
 use super::looking::look;
 use super::sights::{Sight, unseen};
+use super::spoiling::spoilt;
 use super::steps::Step;
 use ps_sum::PathSum;
+
+// So many variables are looked at one by one.
+const FEW: u32 = 8;
 
 // So many variables are looked at together.
 const WINDOW: usize = 128;
@@ -14,8 +19,35 @@ const WINDOW: usize = 128;
 /// The first step that applies: the one that takes the least path variable away, and of several Hh
 /// the one with the least second variable. `None` where no step applies.
 ///
-/// It takes no memory, and reads each term at most four times, however many variables there are.
+/// It takes no memory, and reads each term at most 13 times, however many variables there are; where
+/// no variable can go or the first that may does, at most twice.
 pub fn find(sum: &PathSum) -> Option<Step>
+    ensures first { IfSome result (λ s. FirstStep sum.now s) }
+    ensures none { IsNone result ↔ IsIrreducible sum.now }
+{
+    if sum.m == 0 {
+        return None;
+    }
+    let spoilt = spoilt(sum);
+    let mut tried = 0;
+    for y in 0..sum.m as u16 {
+        if tried == FEW {
+            return first_of_all(sum);
+        }
+        if !spoilt.contains(sum.n as u16 + y) {
+            let sight = sight_of(sum, y);
+            match step_at(sum, y, &sight) {
+                Some(step) => return Some(step),
+                None => {}
+            }
+            tried += 1;
+        }
+    }
+    None
+}
+
+// The same, where many variables are looked at together.
+fn first_of_all(sum: &PathSum) -> Option<Step>
     ensures first { IfSome result (λ s. FirstStep sum.now s) }
     ensures none { IsNone result ↔ IsIrreducible sum.now }
 {

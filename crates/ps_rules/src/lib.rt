@@ -12,6 +12,7 @@ mod measuring;
 mod planning;
 mod settling;
 mod sights;
+mod spoiling;
 pub mod steps;
 mod taking;
 

@@ -9,7 +9,7 @@ use ps_mono::Mono;
 use ps_phase::Term;
 
 // Half a turn, and a quarter and three quarters of a turn.
-const HALF: u32 = 2147483648;
+pub const HALF: u32 = 2147483648;
 
 const QUARTER: u32 = 1073741824;
 
@@ -73,7 +73,7 @@ fn with_quarter(sight: &Sight, term: &Term) -> Sight
 }
 
 // Whether it is a quarter of a turn or three.
-fn is_quarter(units: u32) -> bool
+pub fn is_quarter(units: u32) -> bool
     ensures { IsTrue result ↔ IsQuarter units }
 {
     units == QUARTER || units == THREE_QUARTERS
