@@ -12,6 +12,7 @@ pub mod Once
 pub mod OneText
 pub mod Outcomes
 pub mod Placing
+pub mod Plain
 pub mod Prims
 pub mod Registering
 pub mod Renumbering

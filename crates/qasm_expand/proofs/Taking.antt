@@ -1,5 +1,5 @@
 -- One statement behind the other.
-use Rattle.std.proofs.Common.{◌≡◌, ℕ, ◌+◌, ◌<◌, ◌≤◌, refl, ap, sym, ◌∙◌, subst, arith, true, false, List, [], ◌∷◌, length, drop, get_or, Result, Ok, Err}
+use Rattle.std.proofs.Common.{◌≡◌, ℕ, ◌+◌, ◌<◌, ◌≤◌, refl, ap, sym, ◌∙◌, subst, arith, true, false, List, [], ◌∷◌, ◌++◌, length, drop, get_or, Result, Ok, Err}
 use Rattle.std.proofs.lemmas.List.{drop_more, drop_all}
 use Rattle.ps_prim.specs.declared.prims.Primitive.{Primitive as Prim}
 use Rattle.qasm_parse.specs.declared.program.Span.{Span}
@@ -13,7 +13,10 @@ use Rattle.qasm_expand.specs.declared.fault.FaultName.{FaultName}
 use Rattle.qasm_expand.specs.declared.fault.ReadFault.{ReadFault}
 use Rattle.qasm_expand.specs.declared.fault.ReadFault.TheVariants.{Fault, Memory}
 use Rattle.qasm_expand.specs.Library.{Includes, defining}
-use Rattle.qasm_expand.specs.States.{Became}
+use Rattle.qasm_expand.specs.declared.target.Target.{Target}
+use Rattle.qasm_expand.specs.Checks.{Known}
+use Rattle.qasm_expand.specs.Names.{checked}
+use Rattle.qasm_expand.specs.States.{IsSound, Became, in_block}
 use Rattle.qasm_expand.specs.Targets.{Applies, targets_of}
 use Rattle.qasm_expand.specs.Statements.{declared_as, behind, past, Takes, include, quantum, classical, gate, apply, barrier, Expands, ended, taken, faulty}
 
@@ -49,6 +52,42 @@ module _ {A : Type 0} (bytes : List ℕ) (st new : State) (s : Statement) (r : R
   pub take_barrier : (args given : List Arg) → s ≡ statement.Barrier args → given ≡ args → Became r new (λ x. x ≡ past st (targets_of bytes st.registers given)) → Became r new (Takes bytes st s)
   take_barrier args given e d h = as_taken (λ x. x ≡ past st (targets_of bytes st.registers given)) (statement.Barrier args) e
       (λ x i. subst (Takes bytes st (statement.Barrier args)) (sym (i ∙ ap (λ z. past st (targets_of bytes st.registers z)) d)) barrier) h
+
+-- what is known in a block is the same but for the library, which an application and a barrier leave as it is
+pub sound_within : (st : State) → IsSound st → IsSound (in_block st.registers st.defs st.bound st.items)
+sound_within st s = record { gates = s.gates; names = s.names; qubits = s.qubits; within = s.within; few = s.few }
+
+pub sound_again : (st : State) (new : List (List Prim)) → IsSound (in_block st.registers st.defs st.bound new) → IsSound (record { registers = st.registers; defs = st.defs; bound = st.bound; library = st.library; items = new })
+sound_again st new s = record { gates = s.gates; names = s.names; qubits = s.qubits; within = s.within; few = s.few }
+
+abbrev pub Applied : List ℕ → State → Call → Result State ReadFault → Type 0
+Applied bytes st c x = (o : Result (List (List Prim)) ReadFault) × Applies bytes st.registers st.defs st.bound (length st.items) c o × (x ≡ behind st o)
+
+items_same : (st : State) (new : List (List Prim)) (o : Result (List (List Prim)) ReadFault) → Ok (in_block st.registers st.defs st.bound new) ≡ behind (in_block st.registers st.defs st.bound st.items) o
+    → Ok (record { registers = st.registers; defs = st.defs; bound = st.bound; library = st.library; items = new }) ≡ behind st o
+items_same st new (Ok is) e = ap (λ z. Ok (record { registers = st.registers; defs = st.defs; bound = st.bound; library = st.library; items = z })) (same e)
+  where
+    same : ◌≡◌ {A = Result State ReadFault} (Ok (in_block st.registers st.defs st.bound new)) (Ok (in_block st.registers st.defs st.bound (st.items ++ is))) → new ≡ st.items ++ is
+    same e = let h : in_block st.registers st.defs st.bound new ≡ in_block st.registers st.defs st.bound (st.items ++ is) = cc in ap (λ (s : State). s.items) h
+items_same st new (Err f) e = absurd (cc)
+
+fault_same : (st : State) (f : ReadFault) (o : Result (List (List Prim)) ReadFault) → Err f ≡ behind (in_block st.registers st.defs st.bound st.items) o → Err f ≡ behind st o
+fault_same st f (Ok is) e = absurd (cc)
+fault_same st f (Err g) e = let h : f ≡ g = cc in ap Err h
+
+pub applied_again : (bytes : List ℕ) (st : State) (new : List (List Prim)) (c : Call) (r : Result (Unit {0}) ReadFault) → Became r (in_block st.registers st.defs st.bound new) (Applied bytes (in_block st.registers st.defs st.bound st.items) c)
+    → Became r (record { registers = st.registers; defs = st.defs; bound = st.bound; library = st.library; items = new }) (Applied bytes st c)
+applied_again bytes st new c (Ok u) h = (h.0, h.1, items_same st new h.0 h.2)
+applied_again bytes st new c (Err (Fault name at)) h = (h.0, h.1, fault_same st (Fault name at) h.0 h.2)
+applied_again bytes st new c (Err Memory) h = tt
+
+pub passed : (st : State) (t : Result (List Target) ReadFault) (r : Result (Unit {0}) ReadFault) → Known r (λ r. r ≡ checked t) → Became r st (λ x. x ≡ past st t)
+passed st (Ok ts) (Ok u) h = refl
+passed st (Ok ts) (Err (Fault name at)) h = absurd (cc)
+passed st (Ok ts) (Err Memory) h = tt
+passed st (Err f) (Ok u) h = absurd (cc)
+passed st (Err f) (Err (Fault name at)) h = let e : Fault name at ≡ f = cc in ap Err e
+passed st (Err f) (Err Memory) h = tt
 
 -- whatever the statements from the i-th on make of this is what all make of the first
 abbrev pub Walked : List ℕ → State → List Statement → State → ℕ → Type 0

@@ -97,6 +97,9 @@ pub block_faulty : (t : TableOf) (block : List ℕ) (ss : List Statement) (st ne
 block_faulty t block ss st new (Fault name at) h e x = expanded_block {r = Err (Fault name at)} h (subst (λ z. Expands block z ss (Err (Fault name at))) e x)
 block_faulty t block ss st new Memory h e x = tt
 
+pub block_ended : (t : TableOf) (block : List ℕ) (ss : List Statement) (st new : State) → BlockIs block (Ok ss) → st ≡ behind_text t → Expands block st ss (Ok new) → ReadsBlock t block (Ok new.items)
+block_ended t block ss st new h e x = expanded_block {r = Ok new} h (subst (λ z. Expands block z ss (Ok new)) e x)
+
 pub items_only : (r : Result (List (List Prim)) ReadFault) (P : Result (List (List Prim)) ReadFault → Type 0) → ((a b : Result (List (List Prim)) ReadFault) → P a → P b → b ≡ a) → ItemsTold r P → ItemsTold r (λ a. (b : Result (List (List Prim)) ReadFault) → P b → b ≡ a)
 items_only (Ok c) P one h = λ b k. one _ b h k
 items_only (Err (Fault name at)) P one h = λ b k. one _ b h k

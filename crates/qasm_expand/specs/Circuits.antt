@@ -9,6 +9,7 @@ use Rattle.qasm_expand.specs.declared.fault.ReadFault.{ReadFault}
 use Rattle.qasm_expand.specs.declared.fault.ReadFault.TheVariants.{Fault}
 use Rattle.qasm_expand.specs.Tables.{Register, Bound, qubit_count}
 use Rattle.qasm_expand.specs.Library.{TextIs, BlockIs}
+use Rattle.qasm_expand.specs.States.{in_block}
 use Rattle.qasm_expand.specs.Statements.{Expands}
 
 -- the registers, gates and bound names at the end of a text
@@ -45,7 +46,7 @@ pub data ReadsText (text : List ℕ) : Result CircuitOf ReadFault → Type 0 whe
 
 -- what is known of a table at the beginning of a block
 abbrev pub behind_text : TableOf → State
-behind_text t = record { registers = t.registers; defs = t.defs; bound = t.bound; library = None; items = [] }
+behind_text t = in_block t.registers t.defs t.bound []
 
 abbrev pub items_of : Result State ReadFault → Result (List (List Prim)) ReadFault
 items_of (Ok st) = Ok st.items

@@ -10,5 +10,6 @@ pub mod Frames
 pub mod Targets
 pub mod Aims
 pub mod Statements
+pub mod Blocks
 pub mod Circuits
 pub mod Reading

@@ -1,5 +1,5 @@
 -- What holds of all that is known while the statements of a text are taken, and what a step makes of it.
-use Rattle.std.specs.Prelude.{ℕ, ◌≡◌, ◌≤◌, true, List, [], ◌∷◌, length, Result, Ok, Err}
+use Rattle.std.specs.Prelude.{ℕ, ◌≡◌, ◌≤◌, true, None, List, [], ◌∷◌, length, Result, Ok, Err}
 use Rattle.ps_prim.specs.declared.prims.Primitive.{Primitive as Prim}
 use Rattle.std.specs.Coded.{×_prop, Unit-prop}
 use Rattle.ps_prim.specs.Maps.{AllWithin}
@@ -22,6 +22,10 @@ pub record IsSound (st : State) : Type 0 where
   pub qubits : registers_sound st.registers ≡ true
   pub within : ItemsWithin (qubit_count st.registers) st.items
   pub few : length st.items ≤ 65536
+
+-- what is known in a block: the registers, gates and bound names of a table, and the items so far
+abbrev pub in_block : List Register → List Def → List Bound → List (List Prim) → State
+in_block registers defs bound items = record { registers = registers; defs = defs; bound = bound; library = None; items = items }
 
 -- what is known has become this, or the step had this fault; want of memory aside
 abbrev pub Became : {A B : Type 0} → Result A ReadFault → B → (Result B ReadFault → Type 0) → Type 0

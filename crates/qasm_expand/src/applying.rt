@@ -5,19 +5,22 @@ ghost use Rattle.ps_prim.specs.declared.prims.Primitive.{Primitive as Prim};
 ghost use Rattle.ps_prim.specs.Maps.{AllWithin, IsWithin};
 ghost use Rattle.qasm_parse.specs.Places.{ArgIn, CallIn};
 ghost use Rattle.qasm_expand.specs.declared.fault.ReadFault.{ReadFault};
-ghost use Rattle.qasm_expand.specs.Tables.{all_different};
+ghost use Rattle.qasm_expand.specs.Tables.{all_different, registers_sound};
 ghost use Rattle.qasm_expand.specs.Bodies.{on_qubits, all_on};
-ghost use Rattle.qasm_expand.specs.Checks.{of_angle as angle_fault};
-ghost use Rattle.qasm_expand.specs.States.{IsSound, Became};
+ghost use Rattle.qasm_expand.specs.Checks.{of_angle as angle_fault, Known};
+ghost use Rattle.qasm_expand.specs.Names.{checked};
+ghost use Rattle.qasm_expand.specs.States.{IsSound, Became, in_block};
 ghost use Rattle.qasm_expand.specs.Targets.{targets_of, index_count as indices, qubits_at, items_from, expression_at as offset_of, broken_at as fault_of_broken, Applies};
-ghost use Rattle.qasm_expand.specs.Statements.{behind, past};
+ghost use Rattle.qasm_expand.specs.Statements.{behind};
 ghost use Rattle.qasm_expand.specs.Aims.{Within};
 
 use crate::bodies::comes;
+use crate::bounds::Bounds;
 use crate::broken::Broken;
+use crate::defs::Defs;
 use crate::fault::{FaultName, ReadFault};
 use crate::item_list::Items;
-use crate::state::State;
+use crate::registers::Registers;
 use crate::target::Target;
 use crate::targets::{aim, index_count, qubit, targets};
 use ps_prim::{Item, Prim};
@@ -124,34 +127,41 @@ fn broken_at(call: &Call, broken: Broken) -> ReadFault
 }
 
 /// Applies a gate: behind the items there is one more for each index.
-pub fn apply(alloc: Global, bytes: &[u8], state: &mut State, call: &Call) -> Result<(), ReadFault>
-    requires sound { IsSound state.old }
+pub fn apply(
+    alloc: Global,
+    bytes: &[u8],
+    registers: &Registers,
+    defs: &Defs,
+    bound: &Bounds,
+    items: &mut Items,
+    call: &Call,
+) -> Result<(), ReadFault>
+    requires sound { IsSound (in_block registers.now defs.now bound.now items.old) }
     requires inside { CallIn bytes.now call.now }
-    ensures applies { Became result state.new (λ r. (o : Result (List (List Prim)) ReadFault) × Applies bytes.now state.old.registers state.old.defs state.old.bound (length state.old.items) call.now o × (r ≡ behind state.old o)) }
-    ensures sound { OnOk result (IsSound state.new) }
+    ensures applies { Became result (in_block registers.now defs.now bound.now items.new) (λ r. (o : Result (List (List Prim)) ReadFault) × Applies bytes.now registers.now defs.now bound.now (length items.old) call.now o × (r ≡ behind (in_block registers.now defs.now bound.now items.old) o)) }
+    ensures sound { OnOk result (IsSound (in_block registers.now defs.now bound.now items.new)) }
 {
-    let aimed = aim(alloc, bytes, state, call)?;
-    let prims = match comes(alloc, &state.defs, aimed.gate, call.params.items()) {
+    let aimed = aim(alloc, bytes, registers, defs, bound, items, call)?;
+    let prims = match comes(alloc, defs, aimed.gate, call.params.items()) {
         Ok(prims) => prims,
         Err(broken) => return Err(broken_at(call, broken)),
     };
     let targets = aimed.targets.as_slice();
-    add(
-        alloc,
-        &mut state.items,
-        targets,
-        index_count(targets),
-        &prims,
-    )?;
+    add(alloc, items, targets, index_count(targets), &prims)?;
     Ok(())
 }
 
 /// Passes over a barrier, whose arguments have to be there.
-pub fn barrier(alloc: Global, bytes: &[u8], state: &State, args: &[Arg]) -> Result<(), ReadFault>
-    requires sound { IsSound state.now }
+pub fn barrier(
+    alloc: Global,
+    bytes: &[u8],
+    registers: &Registers,
+    args: &[Arg],
+) -> Result<(), ReadFault>
+    requires qubits { registers_sound registers.now ≡ true }
     requires inside { All (ArgIn bytes.now) args.now }
-    ensures { Became result state.now (λ r. r ≡ past state.now (targets_of bytes.now state.now.registers args.now)) }
+    ensures { Known result (λ r. r ≡ checked (targets_of bytes.now registers.now args.now)) }
 {
-    targets(alloc, bytes, &state.registers, args)?;
+    targets(alloc, bytes, registers, args)?;
     Ok(())
 }

@@ -43,8 +43,16 @@ fn take(
             args.items(),
             body.items(),
         ),
-        Statement::Apply(call) => apply(alloc, bytes, state, call),
-        Statement::Barrier(args) => barrier(alloc, bytes, state, args.items()),
+        Statement::Apply(call) => apply(
+            alloc,
+            bytes,
+            &state.registers,
+            &state.defs,
+            &state.bound,
+            &mut state.items,
+            call,
+        ),
+        Statement::Barrier(args) => barrier(alloc, bytes, &state.registers, args.items()),
     }
 }
 

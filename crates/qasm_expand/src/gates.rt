@@ -2,78 +2,22 @@
 
 ghost use Rattle.std.specs.Prelude.{◌≡◌, ◌≤◌, ◌+◌, ℕ, min, true, length, slice_get, [], ◌∷◌, ◌++◌, IfOk, OnOk, All, Ok};
 ghost use Rattle.qasm_parse.specs.Places.{SpanIn, CallIn, InnerIn};
-ghost use Rattle.qasm_expand.specs.Tables.{params_of as params_by, args_of as args_by, size_of as size_by, body_size as body_size_by, def_sound, defs_sound, bound_sound};
-ghost use Rattle.qasm_expand.specs.Gates.{called as called_by, inner_of, body_of as body_by, def_of as def_by};
+ghost use Rattle.qasm_expand.specs.Tables.{body_size as body_size_by, defs_sound, bound_sound};
+ghost use Rattle.qasm_expand.specs.Gates.{inner_of, body_of as body_by, def_of as def_by};
 ghost use Rattle.qasm_expand.specs.Checks.{Known};
 ghost use Rattle.qasm_expand.specs.Names.{Led};
 ghost use Rattle.qasm_expand.specs.States.{Became};
 ghost use Rattle.qasm_expand.specs.Library.{defined};
 
 use crate::bounds::Bounds;
-use crate::defs::{Body, Called, Def, Defs, Inner};
+use crate::calls::{called, shape_of, wrong_arity};
+use crate::defs::{Body, Def, Defs, Inner};
 use crate::fault::{FaultName, ReadFault};
 use crate::formals::{Formals, formal_names};
 use crate::naming::{different, expressions, known, places};
 use crate::spelling::{count, fault, spelled};
-use qasm_parse::{Call, Called as Word, Inner as Stated, Span};
+use qasm_parse::{Call, Inner as Stated, Span};
 use std::alloc::Global;
-
-/// The gate that a word means.
-pub fn called(bytes: &[u8], bound: &Bounds, word: Word, at: Span) -> Result<Called, ReadFault>
-    requires { SpanIn bytes.now at }
-    ensures { result ≡ called_by bytes.now bound.now word at }
-{
-    match word {
-        Word::U => Ok(Called::U),
-        Word::Cx => Ok(Called::Cx),
-        Word::Named => match bound.meaning(spelled(bytes, at)) {
-            Some(def) => Ok(Called::Def(def)),
-            None => Err(fault(FaultName::Unknown, at)),
-        },
-    }
-}
-
-/// How many parameters a gate takes.
-pub fn params_of(defs: &Defs, gate: Called) -> u32
-    ensures { result ≡ params_by defs.now gate }
-{
-    match gate {
-        Called::U => 3,
-        Called::Cx => 0,
-        Called::Def(d) => match defs.as_slice().get(d as usize) {
-            Some(def) => def.params,
-            None => 0,
-        },
-    }
-}
-
-/// How many arguments a gate takes.
-pub fn args_of(defs: &Defs, gate: Called) -> u32
-    ensures { result ≡ args_by defs.now gate }
-{
-    match gate {
-        Called::U => 1,
-        Called::Cx => 2,
-        Called::Def(d) => match defs.as_slice().get(d as usize) {
-            Some(def) => def.args,
-            None => 0,
-        },
-    }
-}
-
-/// How many primitive gates a gate comes to, told as 4,097 where they are more than 4,096.
-pub fn size_of(defs: &Defs, gate: Called) -> u32
-    ensures { result ≡ size_by defs.now gate }
-{
-    match gate {
-        Called::U => 1,
-        Called::Cx => 1,
-        Called::Def(d) => match defs.as_slice().get(d as usize) {
-            Some(def) => def.size,
-            None => 0,
-        },
-    }
-}
 
 /// An application in a body.
 fn inner(
@@ -91,7 +35,7 @@ fn inner(
     let gate = called(bytes, bound, call.gate, call.at)?;
     let own = call.params.items();
     let on = call.args.items();
-    if own.len() != params_of(defs, gate) as usize || on.len() != args_of(defs, gate) as usize {
+    if wrong_arity(defs, gate, own.len(), on.len()) {
         return Err(fault(FaultName::Arity, call.at));
     }
     let places = places(alloc, bytes, args, on)?;
@@ -167,7 +111,7 @@ fn body_size(defs: &Defs, body: &Body) -> u32
 {
     let mut total = 0;
     for inner in body.as_slice() {
-        total = limited(total, size_of(defs, inner.gate));
+        total = limited(total, shape_of(defs, inner.gate).size);
     }
     total
 }

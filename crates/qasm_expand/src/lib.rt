@@ -2,6 +2,7 @@
 #![tactic(auto)]
 
 pub mod applying;
+pub mod blocks;
 pub mod bodies;
 pub mod bounds;
 pub mod broken;
@@ -27,6 +28,7 @@ pub mod tables;
 pub mod target;
 pub mod targets;
 
+pub use blocks::items;
 pub use bounds::Bounds;
 pub use circuits::circuit;
 pub use defs::{Body, Called, Def, Defs, Exprs, Inner, Places};

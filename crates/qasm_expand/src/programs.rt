@@ -4,6 +4,7 @@ ghost use Rattle.std.specs.Prelude.{◌≡◌, ◌≤◌, length, IfOk, All};
 ghost use Rattle.qasm_parse.specs.Places.{StatementIn};
 ghost use Rattle.qasm_expand.specs.Checks.{of_tokens as token_fault, of_grammar as grammar_fault, Known};
 ghost use Rattle.qasm_expand.specs.Library.{TextIs, BlockIs};
+ghost use Rattle.qasm_expand.specs.Blocks.{IsPlain};
 
 use crate::fault::{FaultName, ReadFault};
 use qasm_lex::{LexFault, tokens};
@@ -59,11 +60,12 @@ pub fn text_program(alloc: Global, bytes: &[u8]) -> Result<Program, ReadFault>
     }
 }
 
-/// The statements of a block, or its first fault.
+/// The statements of a block, which are applications and barriers, or its first fault.
 pub fn block_program(alloc: Global, bytes: &[u8]) -> Result<Program, ReadFault>
     requires { length bytes.now ≤ 16777216 }
     ensures reads { Known result (BlockIs bytes.now) }
     ensures places { IfOk result (λ p. All (StatementIn bytes.now) p) }
+    ensures plain { IfOk result (λ p. All IsPlain p) }
 {
     match tokens(alloc, bytes) {
         Ok(list) => match parse_block(alloc, bytes, &list) {

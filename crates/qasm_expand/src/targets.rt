@@ -6,17 +6,17 @@ ghost use Rattle.qasm_expand.specs.declared.fault.FaultName.TheVariants.{Sizes, 
 ghost use Rattle.qasm_expand.specs.Tables.{registers_sound};
 ghost use Rattle.qasm_expand.specs.Checks.{Known, unless};
 ghost use Rattle.qasm_expand.specs.Gates.{arg_names};
-ghost use Rattle.qasm_expand.specs.States.{IsSound};
 ghost use Rattle.qasm_expand.specs.Targets.{target_of, targets_of, first_uneven as uneven, index_count as indices, qubit_at, qubits_at, repeat_at, repeat_from, too_many as is_too_many, aimed};
 ghost use Rattle.qasm_expand.specs.Aims.{agrees as is_even, size_after, of_extent, Fits, Within};
 
+use crate::bounds::Bounds;
 use crate::calls::{called, shape_of, wrong_arity};
 use crate::defs::{Called, Defs};
 use crate::fault::{FaultName, ReadFault};
+use crate::item_list::Items;
 use crate::numbers::number;
 use crate::registers::{Extent, Registers};
 use crate::spelling::{fault, spelled};
-use crate::state::State;
 use crate::target::{Aimed, Target, Targets};
 use qasm_parse::{Arg, Call, Span};
 use std::alloc::Global;
@@ -195,20 +195,29 @@ fn too_many(defs: &Defs, gate: Called, made: usize, more: u32) -> bool
     shape_of(defs, gate).size > 4096 || made as u64 + more as u64 > 65536
 }
 
-/// The gate and the targets of an application, or its first fault.
-pub fn aim(alloc: Global, bytes: &[u8], state: &State, call: &Call) -> Result<Aimed, ReadFault>
-    requires sound { IsSound state.now }
+/// The gate and the targets of an application behind these items, or its first fault.
+pub fn aim(
+    alloc: Global,
+    bytes: &[u8],
+    registers: &Registers,
+    defs: &Defs,
+    bound: &Bounds,
+    items: &Items,
+    call: &Call,
+) -> Result<Aimed, ReadFault>
+    requires qubits { registers_sound registers.now ≡ true }
+    requires few { length items.now ≤ 65536 }
     requires inside { CallIn bytes.now call.now }
-    ensures { Known result (λ r. r ≡ aimed bytes.now state.now.registers state.now.defs state.now.bound (length state.now.items) call.now) }
+    ensures { Known result (λ r. r ≡ aimed bytes.now registers.now defs.now bound.now (length items.now) call.now) }
 {
-    let gate = called(bytes, &state.bound, call.gate, call.at)?;
+    let gate = called(bytes, bound, call.gate, call.at)?;
     let args = call.args.items();
-    if wrong_arity(&state.defs, gate, call.params.items().len(), args.len()) {
+    if wrong_arity(defs, gate, call.params.items().len(), args.len()) {
         return Err(fault(FaultName::Arity, call.at));
     }
-    let targets = targets(alloc, bytes, &state.registers, args)?;
+    let targets = targets(alloc, bytes, registers, args)?;
     let count = count(targets.as_slice(), args)?;
-    if too_many(&state.defs, gate, state.items.as_slice().len(), count) {
+    if too_many(defs, gate, items.as_slice().len(), count) {
         return Err(fault(FaultName::TooMany, call.at));
     }
     Ok(Aimed { gate, targets })

@@ -1,4 +1,5 @@
-use Rattle.qasm_expand.proofs.Taking.{take_include, take_quantum, take_classical, take_gate, take_apply, take_barrier}
+use Rattle.qasm_expand.specs.Targets.{targets_of}
+use Rattle.qasm_expand.proofs.Taking.{sound_within, sound_again, applied_again, passed, take_include, take_quantum, take_classical, take_gate, take_apply, take_barrier}
 use Rattle.qasm_expand.proofs.expanding.take.Goals as goal
 
 pub returns-in-Include-clause-taken : goal.returns-in-Include-clause-taken
@@ -14,8 +15,12 @@ pub returns-in-Gate-clause-taken : goal.returns-in-Gate-clause-taken
 returns-in-Gate-clause-taken c = take_gate c.args.bytes.now c.args.state.now c.definition.new.state c.args.statement.now c.definition.result c.in-Gate.name c.in-Gate.params c.in-Gate.args c.items.result.now c.items-in-Gate.result.now c.in-Gate.body c.items-in-Gate-2.result.now
     c.in-Gate.is c.items.ensures c.items-in-Gate.ensures c.items-in-Gate-2.ensures c.definition.ensures.defined
 
+pub apply-requires-clause-sound : goal.apply-requires-clause-sound
+apply-requires-clause-sound c = sound_within c.args.state.now c.requires.sound
+
 pub returns-in-Apply-clause-taken : goal.returns-in-Apply-clause-taken
-returns-in-Apply-clause-taken c = take_apply c.args.bytes.now c.args.state.now c.apply.new.state c.args.statement.now c.apply.result c.in-Apply.call c.in-Apply.is c.apply.ensures.applies
+returns-in-Apply-clause-taken c = take_apply c.args.bytes.now c.args.state.now _ c.args.statement.now c.apply.result c.in-Apply.call c.in-Apply.is (applied_again c.args.bytes.now c.args.state.now c.apply.new.items c.in-Apply.call c.apply.result c.apply.ensures.applies)
 
 pub returns-in-Barrier-clause-taken : goal.returns-in-Barrier-clause-taken
-returns-in-Barrier-clause-taken c = take_barrier c.args.bytes.now c.args.state.now c.args.state.now c.args.statement.now c.barrier.result c.in-Barrier.args c.items-in-Barrier.result.now c.in-Barrier.is c.items-in-Barrier.ensures c.barrier.ensures
+returns-in-Barrier-clause-taken c = take_barrier c.args.bytes.now c.args.state.now c.args.state.now c.args.statement.now c.barrier.result c.in-Barrier.args c.items-in-Barrier.result.now c.in-Barrier.is c.items-in-Barrier.ensures
+    (passed c.args.state.now (targets_of c.args.bytes.now c.args.state.now.registers c.items-in-Barrier.result.now) c.barrier.result c.barrier.ensures)

@@ -12,7 +12,7 @@ loop-inner-preserved c =
       few = omega (arith, c.limited-total.ensures);
       counted = size_next c.args.defs.now (drop i is) (drop (i + 1) is) c.inner-item.result t c.limited-total.result (body_size c.args.defs.now is)
           (dropped is i c.inner-item.result c.loop-inner-test.true ∙ ap (λ x. x ∷ drop (i + 1) is) (sym c.inner-item.is))
-          (c.limited-total.ensures ∙ ap (λ n. min (t + n) 4097) c.size_of.ensures) c.loop-inner.invariant.counted;
+          (c.limited-total.ensures ∙ ap (λ n. min (t + n) 4097) c.shape_of.ensures.size) c.loop-inner.invariant.counted;
     }
 
 pub returns : goal.returns

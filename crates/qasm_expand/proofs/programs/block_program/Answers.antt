@@ -1,6 +1,7 @@
 use Rattle.std.proofs.Common.{sym}
 use Rattle.qasm_expand.specs.Checks.{of_tokens, of_grammar}
 use Rattle.qasm_expand.specs.Library.{TextIs, BlockIs}
+use Rattle.qasm_expand.proofs.Plain.{block_plain}
 use Rattle.qasm_expand.proofs.Texts.{block_ok, block_err, block_lex, known_by}
 use Rattle.qasm_expand.proofs.programs.block_program.Goals as goal
 
@@ -12,3 +13,6 @@ returns-in-Ok-clause-reads c = known_by _ (of_grammar c.in-Err-parse_block.fault
 
 pub returns-clause-reads : goal.returns-clause-reads
 returns-clause-reads c = known_by _ (of_tokens c.in-Err.fault) c.of_tokens.result c.of_tokens.ensures (block_lex c.args.bytes.now c.in-Err.fault c.in-Err.ensures.fault)
+
+pub returns-in-Ok-parse_block-clause-plain : goal.returns-in-Ok-parse_block-clause-plain
+returns-in-Ok-parse_block-clause-plain c = block_plain c.args.bytes.now c.deref.result.now c.in-Ok-parse_block.program c.in-Ok-parse_block.ensures.reads
