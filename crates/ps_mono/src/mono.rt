@@ -5,7 +5,7 @@ ghost use Rattle.std.specs.Ordering.{nat_cmp, as_partial_cmp};
 ghost use Rattle.std.proofs.Common.{refl};
 ghost use Rattle.ps_mono.specs.Orders.{mono_total, mono_ties, mono_partial_order};
 ghost use Rattle.std.proofs.lemmas.Cmp.{nat_list_eq_equiv};
-ghost use Rattle.ps_mono.specs.Sets.{stands, IsVarSet, mono_cmp, holds};
+ghost use Rattle.ps_mono.specs.Sets.{stands, vars, Fits8, IsVarSet, mono_cmp, holds};
 
 use super::bits::Bits;
 use super::select::nth_one;
@@ -18,23 +18,24 @@ use std::marker::Model;
 #[derive(Clone, Copy, Debug)]
 pub struct Mono {
     words: [u64; 8],
+    degree: u32,
 }
 
 impl Model for Mono {
-    ghost use Rattle.std.specs.Prelude.{List, ℕ};
-    ghost use Rattle.std.proofs.Common.{ap};
-    ghost use Rattle.ps_mono.specs.Sets.{vars, eight_words, Fits8};
-    ghost use Rattle.ps_mono.specs.Words.{words_back};
+    ghost use Rattle.std.specs.Prelude.{List, ℕ, length};
+    ghost use Rattle.std.proofs.Common.{ap₂};
+    ghost use Rattle.ps_mono.specs.Sets.{vars, eight_words, IsCounted};
+    ghost use Rattle.ps_mono.specs.Words.{words_back, degree_back};
 
     ghost Value = { List ℕ };
 
     ghost view = { λ a. vars a.words };
 
-    ghost invariant = { λ a. Fits8 a.words };
+    ghost invariant = { λ a. IsCounted a.words a.degree };
 
-    ghost inverse = { λ m. record { words = eight_words m } };
+    ghost inverse = { λ m. record { words = eight_words m; degree = length m } };
 
-    ghost inverse_ok = { λ a h. ap (λ ws. record { words = ws }) (words_back a.words h) };
+    ghost inverse_ok = { λ a h. ap₂ (λ ws d. record { words = ws; degree = d }) (words_back a.words h.fits) (degree_back a.words a.degree h) };
 }
 
 impl PartialEq for Mono {
@@ -75,6 +76,21 @@ impl PartialOrd for Mono {
     }
 }
 
+// How many variables the words have. Words without any are the most.
+fn count_vars(words: &[u64; 8]) -> u32
+    requires { Fits8 words.now }
+    ensures { result ≡ length (vars words.now) }
+{
+    let mut count = 0;
+    for i in 0..8 {
+        let word = words[i];
+        if word != 0 {
+            count += word.count_ones();
+        }
+    }
+    count
+}
+
 impl Mono {
     /// Nothing but the knowledge that the list of variables ascends and stays below 512.
     pub fn known(&self)
@@ -87,7 +103,10 @@ impl Mono {
     pub fn one() -> Mono
         ensures { result ≡ [] }
     {
-        Mono { words: [0; 8] }
+        Mono {
+            words: [0; 8],
+            degree: 0,
+        }
     }
 
     /// The monomial of variable `v` alone, which is below 512.
@@ -97,7 +116,7 @@ impl Mono {
     {
         let mut words = [0; 8];
         words[(v / 64) as usize] = 1u64 << (v % 64);
-        Mono { words }
+        Mono { words, degree: 1 }
     }
 
     /// The product: the variables of both.
@@ -109,7 +128,10 @@ impl Mono {
         for i in 0..8 {
             words[i] = self.words[i] | other.words[i];
         }
-        Mono { words }
+        Mono {
+            words,
+            degree: count_vars(&words),
+        }
     }
 
     /// The monomial without variable `v`, which is below 512 and need not stand in it.
@@ -118,10 +140,16 @@ impl Mono {
         ensures members { (u : ℕ) → stands u result ≡ (stands u self.now && not (nat_eq u v)) }
         ensures form { IsVarSet result }
     {
+        if !self.contains(v) {
+            return *self;
+        }
         let mut words = self.words;
         let place = (v / 64) as usize;
         words[place] &= !(1u64 << (v % 64));
-        Mono { words }
+        Mono {
+            words,
+            degree: self.degree - 1,
+        }
     }
 
     /// The product, as `union` gives it. It takes no memory and so always answers `Ok`.
@@ -150,6 +178,7 @@ impl Mono {
     }
 
     /// Whether variable `v`, which is below 512, stands in the monomial.
+    #[inline]
     pub fn contains(&self, v: u16) -> bool
         requires { v < 512 }
         ensures { result ≡ stands v self.now }
@@ -158,14 +187,11 @@ impl Mono {
     }
 
     /// How many variables the monomial has.
+    #[inline]
     pub fn degree(&self) -> u32
         ensures { result ≡ length self.now }
     {
-        let mut count = 0;
-        for i in 0..8 {
-            count += self.words[i].count_ones();
-        }
-        count
+        self.degree
     }
 
     /// The variable at a place in ascending order, counted from 0. The place is below the degree.
@@ -203,6 +229,7 @@ impl Mono {
 
     /// The order of monomials: by degree, and at one degree by the ascending lists of variables, the
     /// first place where they differ deciding.
+    #[inline]
     pub fn compare(&self, other: &Mono) -> Ordering
         ensures { result ≡ mono_cmp self.now other.now }
     {
@@ -233,6 +260,7 @@ impl Mono {
     }
 
     /// Whether all variables of the monomial are true.
+    #[inline]
     pub fn holds(&self, at: &Bits) -> bool
         ensures { result ≡ holds self.now (λ v. stands v at.now) }
     {
