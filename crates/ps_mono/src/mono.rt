@@ -1,14 +1,16 @@
-ghost use Rattle.std.specs.Prelude.{◌≡◌, ℕ, ◌<◌, [], ◌∷◌, ◌&&◌, ◌||◌, not, nat_eq, length, get_or, Ok, IsOkAnd, IsNone, IfSome, ◌↔◌};
+ghost use Rattle.std.specs.Prelude.{◌≡◌, ℕ, ◌<◌, [], ◌∷◌, ◌&&◌, ◌||◌, not, nat_eq, length, get_or, Ok, IsOkAnd, IsNone, IfSome, IsTrue, false, ◌↔◌};
 ghost use Rattle.std.specs.Cmp.{partial_equiv_from_equiv};
 ghost use Rattle.std.specs.Cmp.Lexicographic.{pointwise, slice_cmp};
 ghost use Rattle.std.specs.Ordering.{nat_cmp, as_partial_cmp};
 ghost use Rattle.std.proofs.Common.{refl};
 ghost use Rattle.ps_mono.specs.Orders.{mono_total, mono_ties, mono_partial_order};
 ghost use Rattle.std.proofs.lemmas.Cmp.{nat_list_eq_equiv};
-ghost use Rattle.ps_mono.specs.Sets.{stands, vars, Fits8, IsVarSet, mono_cmp, holds};
+ghost use Rattle.ps_mono.specs.Sets.{stands, IsVarSet, mono_cmp, holds};
+ghost use Rattle.ps_mono.specs.Names.{opened};
 
 use super::bits::Bits;
 use super::select::nth_one;
+use super::words::{closed_words, count_vars, joined_words};
 use std::alloc::{AllocError, Global};
 use std::cmp::Ordering;
 use std::marker::Model;
@@ -17,7 +19,7 @@ use std::marker::Model;
 /// its variables.
 #[derive(Clone, Copy, Debug)]
 pub struct Mono {
-    words: [u64; 8],
+    pub(crate) words: [u64; 8],
     degree: u32,
 }
 
@@ -76,21 +78,6 @@ impl PartialOrd for Mono {
     }
 }
 
-// How many variables the words have. Words without any are the most.
-fn count_vars(words: &[u64; 8]) -> u32
-    requires { Fits8 words.now }
-    ensures { result ≡ length (vars words.now) }
-{
-    let mut count = 0;
-    for i in 0..8 {
-        let word = words[i];
-        if word != 0 {
-            count += word.count_ones();
-        }
-    }
-    count
-}
-
 impl Mono {
     /// Nothing but the knowledge that the list of variables ascends and stays below 512.
     pub fn known(&self)
@@ -124,14 +111,9 @@ impl Mono {
         ensures members { (v : ℕ) → stands v result ≡ (stands v self.now || stands v other.now) }
         ensures form { IsVarSet result }
     {
-        let mut words = [0; 8];
-        for i in 0..8 {
-            words[i] = self.words[i] | other.words[i];
-        }
-        Mono {
-            words,
-            degree: count_vars(&words),
-        }
+        let words = joined_words(&self.words, &other.words);
+        let degree = count_vars(&words);
+        Mono { words, degree }
     }
 
     /// The monomial without variable `v`, which is below 512 and need not stand in it.
@@ -150,6 +132,47 @@ impl Mono {
             words,
             degree: self.degree - 1,
         }
+    }
+
+    /// The monomial in which the variables above `v` have names one lower. `v`, which is below 512,
+    /// does not stand in it.
+    pub fn closed(&self, v: u16) -> Mono
+        requires small { v < 512 }
+        requires free { stands v self.now ≡ false }
+        ensures members { (w : ℕ) → stands w result ≡ stands (opened v w) self.now }
+        ensures form { IsVarSet result }
+    {
+        if self.ends_below(v) {
+            return *self;
+        }
+        Mono {
+            words: closed_words(&self.words, v),
+            degree: self.degree,
+        }
+    }
+
+    // Whether no variable is above v.
+    fn ends_below(&self, v: u16) -> bool
+        requires { v < 512 }
+        ensures { IsTrue result → (w : ℕ) → v < w → stands w self.now ≡ false }
+    {
+        let place = (v / 64) as usize;
+        for i in place + 1..8 {
+            if self.words[i] != 0 {
+                return false;
+            }
+        }
+        self.words[place] >> (v % 64) <= 1
+    }
+
+    /// The monomial of the variables that are true.
+    pub fn of_bits(bits: &Bits) -> Mono
+        ensures value { result ≡ bits.now }
+        ensures form { IsVarSet result }
+    {
+        let words = bits.words;
+        let degree = count_vars(&words);
+        Mono { words, degree }
     }
 
     /// The product, as `union` gives it. It takes no memory and so always answers `Ok`.

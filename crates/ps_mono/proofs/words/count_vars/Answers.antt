@@ -1,8 +1,8 @@
 use Rattle.std.proofs.Common.{arith, refl, ◌∙◌}
 use Rattle.std.specs.Int.Count.{ones-le}
 use Rattle.ps_mono.proofs.Counts.{count_more, count_all, count_none, count_skip}
-use Rattle.ps_mono.proofs.mono.count_vars.Goals as goal
-use Rattle.ps_mono.proofs.mono.count_vars.Goals.{then-word-ne0, else-word-ne0}
+use Rattle.ps_mono.proofs.words.count_vars.Goals as goal
+use Rattle.ps_mono.proofs.words.count_vars.Goals.{then-word-ne0, else-word-ne0}
 
 pub loop-i-init : goal.loop-i-init
 loop-i-init c = record { small = omega arith; counted = count_none _ }
