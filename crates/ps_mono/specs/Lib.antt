@@ -3,3 +3,4 @@ pub mod Lists
 pub mod Words
 pub mod Truth
 pub mod Orders
+pub mod Names

@@ -1,5 +1,5 @@
 -- The order of monomials is total, and only equal ones tie.
-use Rattle.std.proofs.Common.{◌≡◌, ℕ, refl, ap, ap₂, sym, ◌∙◌, arith, ◌≤◌, Bool, true, nat_eq, List, [], ◌∷◌, length, nat_cmp, Ordering, Less, Equal, Greater, Some}
+use Rattle.std.proofs.Common.{◌≡◌, ℕ, refl, ap, ap₂, sym, ◌∙◌, arith, ◌≤◌, true, nat_eq, List, [], ◌∷◌, length, nat_cmp, Ordering, Less, Equal, Greater, Some}
 use Rattle.std.specs.Bool.{Decides}
 use Rattle.std.specs.Cmp.{IsTotalOrder, IsPartialOrder, po}
 use Rattle.std.specs.Cmp.Lexicographic.{pointwise, slice_cmp}

@@ -1,4 +1,4 @@
-ghost use Rattle.std.specs.Prelude.{◌≡◌, ℕ, ◌<◌, [], ◌∷◌, ◌&&◌, ◌||◌, not, nat_eq, length, get_or, Ok, IsOkAnd, IsNone, IfSome, ◌↔◌};
+ghost use Rattle.std.specs.Prelude.{◌≡◌, ℕ, ◌<◌, [], ◌∷◌, ◌&&◌, ◌||◌, not, nat_eq, length, get_or, Ok, IsOkAnd, IsNone, IfSome, IsTrue, false, ◌↔◌};
 ghost use Rattle.std.specs.Cmp.{partial_equiv_from_equiv};
 ghost use Rattle.std.specs.Cmp.Lexicographic.{pointwise, slice_cmp};
 ghost use Rattle.std.specs.Ordering.{nat_cmp, as_partial_cmp};
@@ -6,9 +6,11 @@ ghost use Rattle.std.proofs.Common.{refl};
 ghost use Rattle.ps_mono.specs.Orders.{mono_total, mono_ties, mono_partial_order};
 ghost use Rattle.std.proofs.lemmas.Cmp.{nat_list_eq_equiv};
 ghost use Rattle.ps_mono.specs.Sets.{stands, IsVarSet, mono_cmp, holds};
+ghost use Rattle.ps_mono.specs.Names.{opened};
 
 use super::bits::Bits;
 use super::select::nth_one;
+use super::words::{closed_words, count_vars, joined_words};
 use std::alloc::{AllocError, Global};
 use std::cmp::Ordering;
 use std::marker::Model;
@@ -17,24 +19,25 @@ use std::marker::Model;
 /// its variables.
 #[derive(Clone, Copy, Debug)]
 pub struct Mono {
-    words: [u64; 8],
+    pub(crate) words: [u64; 8],
+    degree: u32,
 }
 
 impl Model for Mono {
-    ghost use Rattle.std.specs.Prelude.{List, ℕ};
-    ghost use Rattle.std.proofs.Common.{ap};
-    ghost use Rattle.ps_mono.specs.Sets.{vars, eight_words, Fits8};
-    ghost use Rattle.ps_mono.specs.Words.{words_back};
+    ghost use Rattle.std.specs.Prelude.{List, ℕ, length};
+    ghost use Rattle.std.proofs.Common.{ap₂};
+    ghost use Rattle.ps_mono.specs.Sets.{vars, eight_words, IsCounted};
+    ghost use Rattle.ps_mono.specs.Words.{words_back, degree_back};
 
     ghost Value = { List ℕ };
 
     ghost view = { λ a. vars a.words };
 
-    ghost invariant = { λ a. Fits8 a.words };
+    ghost invariant = { λ a. IsCounted a.words a.degree };
 
-    ghost inverse = { λ m. record { words = eight_words m } };
+    ghost inverse = { λ m. record { words = eight_words m; degree = length m } };
 
-    ghost inverse_ok = { λ a h. ap (λ ws. record { words = ws }) (words_back a.words h) };
+    ghost inverse_ok = { λ a h. ap₂ (λ ws d. record { words = ws; degree = d }) (words_back a.words h.fits) (degree_back a.words a.degree h) };
 }
 
 impl PartialEq for Mono {
@@ -87,7 +90,10 @@ impl Mono {
     pub fn one() -> Mono
         ensures { result ≡ [] }
     {
-        Mono { words: [0; 8] }
+        Mono {
+            words: [0; 8],
+            degree: 0,
+        }
     }
 
     /// The monomial of variable `v` alone, which is below 512.
@@ -97,7 +103,7 @@ impl Mono {
     {
         let mut words = [0; 8];
         words[(v / 64) as usize] = 1u64 << (v % 64);
-        Mono { words }
+        Mono { words, degree: 1 }
     }
 
     /// The product: the variables of both.
@@ -105,11 +111,9 @@ impl Mono {
         ensures members { (v : ℕ) → stands v result ≡ (stands v self.now || stands v other.now) }
         ensures form { IsVarSet result }
     {
-        let mut words = [0; 8];
-        for i in 0..8 {
-            words[i] = self.words[i] | other.words[i];
-        }
-        Mono { words }
+        let words = joined_words(&self.words, &other.words);
+        let degree = count_vars(&words);
+        Mono { words, degree }
     }
 
     /// The monomial without variable `v`, which is below 512 and need not stand in it.
@@ -118,10 +122,57 @@ impl Mono {
         ensures members { (u : ℕ) → stands u result ≡ (stands u self.now && not (nat_eq u v)) }
         ensures form { IsVarSet result }
     {
+        if !self.contains(v) {
+            return *self;
+        }
         let mut words = self.words;
         let place = (v / 64) as usize;
         words[place] &= !(1u64 << (v % 64));
-        Mono { words }
+        Mono {
+            words,
+            degree: self.degree - 1,
+        }
+    }
+
+    /// The monomial in which the variables above `v` have names one lower. `v`, which is below 512,
+    /// does not stand in it.
+    pub fn closed(&self, v: u16) -> Mono
+        requires small { v < 512 }
+        requires free { stands v self.now ≡ false }
+        ensures members { (w : ℕ) → stands w result ≡ stands (opened v w) self.now }
+        ensures form { IsVarSet result }
+    {
+        if self.ends_below(v) {
+            return *self;
+        }
+        Mono {
+            words: closed_words(&self.words, v),
+            degree: self.degree,
+        }
+    }
+
+    // Whether no variable is above v.
+    fn ends_below(&self, v: u16) -> bool
+        requires { v < 512 }
+        ensures { IsTrue result → (w : ℕ) → v < w → stands w self.now ≡ false }
+    {
+        let place = (v / 64) as usize;
+        for i in place + 1..8 {
+            if self.words[i] != 0 {
+                return false;
+            }
+        }
+        self.words[place] >> (v % 64) <= 1
+    }
+
+    /// The monomial of the variables that are true.
+    pub fn of_bits(bits: &Bits) -> Mono
+        ensures value { result ≡ bits.now }
+        ensures form { IsVarSet result }
+    {
+        let words = bits.words;
+        let degree = count_vars(&words);
+        Mono { words, degree }
     }
 
     /// The product, as `union` gives it. It takes no memory and so always answers `Ok`.
@@ -150,6 +201,7 @@ impl Mono {
     }
 
     /// Whether variable `v`, which is below 512, stands in the monomial.
+    #[inline]
     pub fn contains(&self, v: u16) -> bool
         requires { v < 512 }
         ensures { result ≡ stands v self.now }
@@ -158,14 +210,11 @@ impl Mono {
     }
 
     /// How many variables the monomial has.
+    #[inline]
     pub fn degree(&self) -> u32
         ensures { result ≡ length self.now }
     {
-        let mut count = 0;
-        for i in 0..8 {
-            count += self.words[i].count_ones();
-        }
-        count
+        self.degree
     }
 
     /// The variable at a place in ascending order, counted from 0. The place is below the degree.
@@ -203,6 +252,7 @@ impl Mono {
 
     /// The order of monomials: by degree, and at one degree by the ascending lists of variables, the
     /// first place where they differ deciding.
+    #[inline]
     pub fn compare(&self, other: &Mono) -> Ordering
         ensures { result ≡ mono_cmp self.now other.now }
     {
@@ -233,6 +283,7 @@ impl Mono {
     }
 
     /// Whether all variables of the monomial are true.
+    #[inline]
     pub fn holds(&self, at: &Bits) -> bool
         ensures { result ≡ holds self.now (λ v. stands v at.now) }
     {

@@ -37,3 +37,25 @@ fn words(rt: HostRuntime) -> Result<(), Fail> {
     assert!(rt; !wide.holds(&at));
     Ok(())
 }
+
+// Names that close up from word to word, and the variables of several monomials together.
+#[test]
+fn names(rt: HostRuntime) -> Result<(), Fail> {
+    let wide = Mono::var(511).union(&Mono::var(64)).union(&Mono::var(3));
+    assert!(rt; !wide.contains(10));
+    let lower = wide.closed(10);
+    assert_eq!(rt;
+        lower,
+        Mono::var(510).union(&Mono::var(63)).union(&Mono::var(3))
+    );
+    assert_eq!(rt; lower.degree(), 3);
+    let low = Mono::var(3);
+    assert!(rt; !low.contains(4));
+    assert_eq!(rt; low.closed(4), low);
+    let mut support = Bits::zero();
+    support.add(&wide);
+    support.add(&Mono::var(64));
+    assert_eq!(rt; Mono::of_bits(&support), wide);
+    assert_eq!(rt; Mono::of_bits(&support).degree(), 3);
+    Ok(())
+}

@@ -34,7 +34,7 @@ pub fn find(sum: &PathSum) -> Option<Step>
         if tried == FEW {
             return first_of_all(sum);
         }
-        if !spoilt.contains(sum.n as u16 + y) {
+        if !spoilt.get(sum.n as u16 + y) {
             let sight = sight_of(sum, y);
             match step_at(sum, y, &sight) {
                 Some(step) => return Some(step),

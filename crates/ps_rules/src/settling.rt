@@ -14,13 +14,6 @@ use ps_sum::Outputs;
 use std::alloc::Global;
 use std::mem;
 
-// The name of a variable once v is gone.
-fn closed_name(v: u16, u: u16) -> u16
-    ensures { result ≡ closed v u }
-{
-    if u > v { u - 1 } else { u }
-}
-
 // The monomial with the names above v one lower; v does not stand in it.
 fn closed_mono(mono: &Mono, v: u16) -> Mono
     requires small { v < 512 }
@@ -28,16 +21,7 @@ fn closed_mono(mono: &Mono, v: u16) -> Mono
     ensures { result ≡ closed_mono v mono.now }
 {
     mono.known();
-    let degree = mono.degree();
-    if degree == 0 || mono.var_at(degree - 1) < v {
-        return *mono;
-    }
-    let mut out = Mono::one();
-    for place in 0..degree {
-        out = out.union(&Mono::var(closed_name(v, mono.var_at(place))));
-    }
-    out.known();
-    out
+    mono.closed(v)
 }
 
 // Drops the terms with v, and closes the names of the others up, in place.

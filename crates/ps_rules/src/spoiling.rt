@@ -8,18 +8,18 @@ ghost use Rattle.ps_rules.specs.Sights.{IsFine, IsSpoilt};
 
 use super::sights::{HALF, is_quarter};
 use ps_bool::BoolPoly;
-use ps_mono::Mono;
+use ps_mono::Bits;
 use ps_phase::Term;
 use ps_sum::PathSum;
 
 // Variables that stand in an output, or in a term that no step at them allows.
-pub fn spoilt(sum: &PathSum) -> Mono
+pub fn spoilt(sum: &PathSum) -> Bits
     ensures { (v : ℕ) → stands v result ≡ true → IsSpoilt v sum.now.outs sum.now.phase }
 {
     let mut out = spoken_in(sum.outs.polys());
     for term in sum.phase.terms() {
         if spoils(term) {
-            out = out.union(&term.mono);
+            out.add(&term.mono);
         }
     }
     out
@@ -34,23 +34,21 @@ fn spoils(term: &Term) -> bool
 }
 
 // The variables that stand in these outputs.
-fn spoken_in(outs: &[BoolPoly]) -> Mono
+fn spoken_in(outs: &[BoolPoly]) -> Bits
     ensures { (v : ℕ) → stands v result ≡ true → outs_occur v outs.now ≡ true }
 {
-    let mut out = Mono::one();
+    let mut out = Bits::zero();
     for poly in outs {
-        out = with_poly(&out, poly);
+        add_poly(&mut out, poly);
     }
     out
 }
 
-// These variables, and those of the polynomial.
-fn with_poly(start: &Mono, poly: &BoolPoly) -> Mono
-    ensures { (v : ℕ) → stands v result ≡ true → (stands v start.now || occurs v poly.now) ≡ true }
+// The variables of the polynomial beside those that are there.
+fn add_poly(out: &mut Bits, poly: &BoolPoly)
+    ensures { (v : ℕ) → stands v out.new ≡ true → (stands v out.old || occurs v poly.now) ≡ true }
 {
-    let mut out = *start;
     for mono in poly.monos() {
-        out = out.union(mono);
+        out.add(mono);
     }
-    out
 }

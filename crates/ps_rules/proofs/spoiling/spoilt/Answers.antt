@@ -7,6 +7,6 @@ use Rattle.ps_rules.proofs.spoiling.spoilt.Goals.{then-spoils, else-spoils}
 pub loop-term-preserved : goal.loop-term-preserved
 loop-term-preserved c = elim c.if-spoils.branch [
   | then-spoils w ↦ terms_spoil c.args.sum.now.outs c.terms-term-items.result.now c.loop-term.term-index c.term-item.result c.loop-term.out c.if-spoils.out c.loop-term-test.true c.term-item.is
-      (λ v. ap (stands v) w.out-is ∙ w.union-out.ensures.members v) (c.spoils.ensures w.if-spoils.true) c.loop-term.invariant
+      (λ v. ap (stands v) w.out-is ∙ w.add.ensures.values v) (c.spoils.ensures w.if-spoils.true) c.loop-term.invariant
   | else-spoils w ↦ terms_keep c.args.sum.now.outs c.terms-term-items.result.now c.loop-term.term-index c.term-item.result c.loop-term.out c.if-spoils.out c.loop-term-test.true c.term-item.is w.out-is c.loop-term.invariant
 ]

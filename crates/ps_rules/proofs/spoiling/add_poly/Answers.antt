@@ -1,0 +1,5 @@
+use Rattle.ps_rules.proofs.Gathers.{poly_more}
+use Rattle.ps_rules.proofs.spoiling.add_poly.Goals as goal
+
+pub loop-mono-preserved : goal.loop-mono-preserved
+loop-mono-preserved c = poly_more c.args.out.now c.monos-mono-items.result.now c.loop-mono.mono-index c.mono-item.result c.loop-mono.out _ c.loop-mono-test.true c.mono-item.is c.add.ensures.values c.loop-mono.invariant
