@@ -133,3 +133,10 @@ pub start_rest : (xs ys out all : List Mono) (i j : ℕ) → (length xs ≤ i) �
 start_rest xs ys out all i j h e =
     let t : take (length xs - i) (drop i xs) ≡ drop i xs = take_all (length xs - i) (drop i xs) (omega (arith, length-drop i xs)) in
     ap (λ (r : List Mono). out ++ (r ++ drop j ys)) t ∙ ap (λ (r : List Mono). out ++ r) (sym (merge_end xs ys i j h)) ∙ e
+
+-- both rests appended, of which one is empty
+pub add_rests : (xs ys out mid end all : List Mono) (i j : ℕ) → (length xs ≤ i) ⊎ (length ys ≤ j) → out ++ merge (drop i xs) (drop j ys) ≡ all → mid ≡ out ++ take (length xs - i) (drop i xs) → end ≡ mid ++ take (length ys - j) (drop j ys) → end ≡ all
+add_rests xs ys out mid end all i j h e first second =
+    let t : take (length ys - j) (drop j ys) ≡ drop j ys = take_all (length ys - j) (drop j ys) (omega (arith, length-drop j ys)) in
+    second ∙ ap (λ (r : List Mono). r ++ take (length ys - j) (drop j ys)) first ∙ append_assoc out (take (length xs - i) (drop i xs)) (take (length ys - j) (drop j ys))
+    ∙ ap (λ (r : List Mono). out ++ (take (length xs - i) (drop i xs) ++ r)) t ∙ start_rest xs ys out all i j h e

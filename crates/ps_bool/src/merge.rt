@@ -30,11 +30,7 @@ pub fn merged(alloc: Global, xs: &[Mono], ys: &[Mono]) -> Result<Vec<Mono>, Allo
             }
         }
     }
-    for x in &xs[i..] {
-        out.push(*x)?;
-    }
-    for y in &ys[j..] {
-        out.push(*y)?;
-    }
+    out.extend_from_slice(&xs[i..])?;
+    out.extend_from_slice(&ys[j..])?;
     Ok(out)
 }

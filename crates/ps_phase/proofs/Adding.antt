@@ -216,6 +216,13 @@ start_rest xs ys out all i j h e =
     let t : take (length xs - i) (drop i xs) ≡ drop i xs = take_all (length xs - i) (drop i xs) (omega (arith, length-drop i xs)) in
     ap (λ (r : List Term). out ++ (r ++ drop j ys)) t ∙ ap (λ (r : List Term). out ++ r) (sym (add_end xs ys i j h)) ∙ e
 
+-- both rests appended, of which one is empty
+pub add_rests : (xs ys out mid end all : List Term) (i j : ℕ) → (length xs ≤ i) ⊎ (length ys ≤ j) → out ++ add_terms (drop i xs) (drop j ys) ≡ all → mid ≡ out ++ take (length xs - i) (drop i xs) → end ≡ mid ++ take (length ys - j) (drop j ys) → end ≡ all
+add_rests xs ys out mid end all i j h e first second =
+    let t : take (length ys - j) (drop j ys) ≡ drop j ys = take_all (length ys - j) (drop j ys) (omega (arith, length-drop j ys)) in
+    second ∙ ap (λ (r : List Term). r ++ take (length ys - j) (drop j ys)) first ∙ append_assoc out (take (length xs - i) (drop i xs)) (take (length ys - j) (drop j ys))
+    ∙ ap (λ (r : List Term). out ++ (take (length xs - i) (drop i xs) ++ r)) t ∙ start_rest xs ys out all i j h e
+
 pub pushed_copy : (m m' : List ℕ) (u : ℕ) (out out' : List Term) → m' ≡ m → out' ≡ out ++ record { mono = m'; phase = u } ∷ [] → out' ≡ out ++ record { mono = m; phase = u } ∷ []
 pushed_copy m m' u out out' e h = h ∙ ap (λ (r : List ℕ). out ++ record { mono = r; phase = u } ∷ []) e
 

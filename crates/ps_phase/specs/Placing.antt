@@ -1,9 +1,11 @@
 -- Terms added to those that stand there.
-use Rattle.std.specs.Prelude.{ℕ, ◌≡◌, ◌≢◌, ◌+◌, ◌%◌, ◌<◌, Bool, List, [], ◌∷◌, length, slice_index_or}
+use Rattle.std.specs.Prelude.{ℕ, ◌≡◌, ◌≢◌, ◌+◌, ◌-◌, ◌%◌, ◌<◌, Bool, List, [], ◌∷◌, ◌++◌, length, take, slice_index_or}
+use Rattle.std.specs.declared.cmp.Ordering.TheVariants.{Less}
 use Rattle.ps_phase.specs.declared.terms.Term.{Term}
-use Rattle.ps_mono.specs.Sets.{holds}
+use Rattle.ps_mono.specs.Sets.{mono_cmp, holds}
 use Rattle.ps_mono.specs.Truth.{times}
-use Rattle.ps_phase.specs.Phases.{phase_value, phase_occurs, coefficient, IsPhasePoly}
+use Rattle.ps_phase.specs.Phases.{phase_value, phase_occurs, coefficient, IsTerm, IsPhasePoly}
+use Rattle.ps_phase.specs.Adding.{put_term}
 
 -- the monomial m stands at place i
 pub record IsPlace (m : List ℕ) (ts : List Term) (i : ℕ) : Type 0 where
@@ -24,3 +26,16 @@ pub record Absorbed (xs : List Term) (y : Term) (ts : List Term) : Type 0 where
   pub value : (a : ℕ → Bool) → phase_value ts a % 4294967296 ≡ (phase_value xs a + times (holds y.mono a) y.phase) % 4294967296
   pub same : (v : ℕ) → phase_occurs v ts ≡ phase_occurs v xs
   pub others : (m : List ℕ) → m ≢ y.mono → coefficient m ts ≡ coefficient m xs
+
+-- what stands at place i is a term, and its monomial comes after that of the one before it
+pub record Follows (ts : List Term) (i : ℕ) : Type 0 where
+  pub term : (d : Term) → IsTerm (slice_index_or ts i d)
+  pub order : (d : Term) → 0 < i → mono_cmp (slice_index_or ts (i - 1) d).mono (slice_index_or ts i d).mono ≡ Less
+
+-- ts has t behind the first k terms of xs, where its phase is not zero, and the terms from place k + 1 on as they were; r is the place behind t
+pub record IsPut (xs : List Term) (k : ℕ) (t : Term) (ts : List Term) (r : ℕ) : Type 0 where
+  pub size : length ts ≡ length xs
+  pub front : take r ts ≡ take k xs ++ put_term t.mono t.phase []
+  pub rest : (j : ℕ) (d : Term) → k < j → slice_index_or ts j d ≡ slice_index_or xs j d
+  pub none : t.phase ≡ 0 → r ≡ k
+  pub some : t.phase ≢ 0 → r ≡ k + 1

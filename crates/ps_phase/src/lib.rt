@@ -1,6 +1,7 @@
 //! Phase polynomials: how far each assignment of the variables turns the phase, as a sum of terms.
 #![tactic(auto)]
 
+mod gathering;
 mod inplace;
 pub mod merging;
 pub mod poly;

@@ -1,8 +1,7 @@
 ghost use Rattle.std.specs.Prelude.{◌≡◌, ℕ, ◌<◌, Bool, [], ◌++◌, IfOk, OnOk, false};
 ghost use Rattle.std.specs.List.{All};
-ghost use Rattle.ps_mono.specs.Sets.{stands, IsVarSet};
-ghost use Rattle.ps_phase.specs.Adding.{put_term, add_terms, scaled_terms, terms_where, combined_terms};
-ghost use Rattle.ps_phase.specs.Phases.{AllSmall};
+ghost use Rattle.ps_mono.specs.Sets.{stands};
+ghost use Rattle.ps_phase.specs.Adding.{put_term, add_terms, scaled_terms, terms_where};
 
 use super::terms::Term;
 use ps_mono::Mono;
@@ -25,7 +24,7 @@ pub(crate) fn push_term(out: &mut Vec<Term>, mono: &Mono, phase: Phase) -> Resul
 pub(crate) fn added(alloc: Global, xs: &[Term], ys: &[Term]) -> Result<Vec<Term>, AllocError>
     ensures { IfOk result (λ v. v.items ≡ add_terms xs.now ys.now) }
 {
-    let mut out = Vec::new(alloc);
+    let mut out = Vec::with_capacity(alloc, xs.len() + ys.len())?;
     let mut i = 0;
     let mut j = 0;
     while i < xs.len() && j < ys.len() {
@@ -47,12 +46,8 @@ pub(crate) fn added(alloc: Global, xs: &[Term], ys: &[Term]) -> Result<Vec<Term>
             }
         }
     }
-    for x in &xs[i..] {
-        out.push(*x)?;
-    }
-    for y in &ys[j..] {
-        out.push(*y)?;
-    }
+    out.extend_from_slice(&xs[i..])?;
+    out.extend_from_slice(&ys[j..])?;
     Ok(out)
 }
 
@@ -60,7 +55,7 @@ pub(crate) fn added(alloc: Global, xs: &[Term], ys: &[Term]) -> Result<Vec<Term>
 pub(crate) fn scaled(alloc: Global, terms: &[Term], by: u32) -> Result<Vec<Term>, AllocError>
     ensures { IfOk result (λ v. v.items ≡ scaled_terms by terms.now) }
 {
-    let mut out = Vec::new(alloc);
+    let mut out = Vec::with_capacity(alloc, terms.len())?;
     for term in terms {
         let units = by.wrapping_mul(term.phase.units());
         push_term(&mut out, &term.mono, Phase::of(units))?;
@@ -78,34 +73,11 @@ pub(crate) fn selected(
     requires { v < 512 }
     ensures { IfOk result (λ w. w.items ≡ terms_where with v terms.now) }
 {
-    let mut out = Vec::new(alloc);
+    let mut out = Vec::with_capacity(alloc, if with { 0 } else { terms.len() })?;
     for term in terms {
         if term.mono.contains(v) == with {
             out.push(*term)?;
         }
     }
-    Ok(out)
-}
-
-// The sum of each run of one monomial.
-pub(crate) fn combined(alloc: Global, terms: &[Term]) -> Result<Vec<Term>, AllocError>
-    ensures items { IfOk result (λ v. v.items ≡ combined_terms [] 0 terms.now) }
-    ensures small { IfOk result (λ v. AllSmall terms.now) }
-{
-    let mut out = Vec::new(alloc);
-    let mut mono = Mono::one();
-    let mut phase = Phase::of(0);
-    for term in terms {
-        term.mono.known();
-        let units = term.phase.units();
-        if let Ordering::Equal = mono.compare(&term.mono) {
-            phase = phase.add(term.phase);
-        } else {
-            push_term(&mut out, &mono, phase)?;
-            mono = term.mono;
-            phase = Phase::of(units);
-        }
-    }
-    push_term(&mut out, &mono, phase)?;
     Ok(out)
 }

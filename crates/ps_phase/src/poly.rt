@@ -3,8 +3,9 @@ ghost use Rattle.ps_phase.specs.Phases.{phase_value, phase_occurs, IsPhasePoly, 
 ghost use Rattle.ps_phase.specs.Adding.{terms_with, terms_without};
 ghost use Rattle.ps_mono.specs.Sets.{stands};
 
+use super::gathering::{combine, is_ordered};
 use super::inplace::{absorb, fits};
-use super::merging::{added, combined, push_term, scaled, selected};
+use super::merging::{added, push_term, scaled, selected};
 use super::terms::Term;
 use ps_mono::{Bits, Mono};
 use ps_ring::Phase;
@@ -55,14 +56,18 @@ impl PhasePoly {
     }
 
     /// The sum of terms in any order, of which several may have one monomial: they are sorted once,
-    /// and those of one monomial added. `AllocError` is want of memory.
+    /// unless they are in order already, and those of one monomial added. It works in place and
+    /// always answers `Ok`.
     pub fn gather(mut terms: Vec<Term>) -> Result<PhasePoly, AllocError>
         ensures value { IfOk result (λ p. SameTurns p terms.items) }
         ensures variables { IfOk result (λ p. (v : ℕ) → phase_occurs v p ≡ true → phase_occurs v terms.items ≡ true) }
         ensures form { IfOk result (λ p. IsPhasePoly p) }
     {
+        if is_ordered(&terms) {
+            return Ok(PhasePoly { terms });
+        }
         terms.sort_unstable_by(|x, y| x.mono.compare(&y.mono));
-        let terms = combined(*terms.allocator(), &terms)?;
+        combine(&mut terms);
         Ok(PhasePoly { terms })
     }
 

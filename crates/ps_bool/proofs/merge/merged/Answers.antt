@@ -1,5 +1,5 @@
 use Rattle.std.proofs.Common.{arith, inl, inr}
-use Rattle.ps_bool.proofs.Merges.{keep_less, keep_greater, keep_equal, start_rest}
+use Rattle.ps_bool.proofs.Merges.{keep_less, keep_greater, keep_equal, add_rests}
 use Rattle.ps_bool.proofs.merge.merged.Goals as goal
 use Rattle.ps_bool.proofs.merge.merged.Goals.{then-loop-i-test+else-j-ys, else-loop-i-test}
 
@@ -26,8 +26,5 @@ loop-i-preserved c = record {
   whole = keep_equal _ _ _ _ c.loop-i.i c.loop-i.j c.index-xs-i.result c.index-ys-j.result c.loop-i-test.true c.if-j-ys.true c.index-xs-i.is c.index-ys-j.is c.in-Equal.ensures c.loop-i.invariant.whole;
 }
 
-pub loop-x-init : goal.loop-x-init
-loop-x-init c = record {
-  j_in = omega arith;
-  whole = start_rest _ _ _ _ c.loop-i.i c.loop-i.j (elim c.loop-i-test.branch [ then-loop-i-test+else-j-ys w ↦ inr w.if-j-ys.false | else-loop-i-test w ↦ inl w.loop-i-test.false ]) c.loop-i.invariant.whole;
-}
+pub returns : goal.returns
+returns c = add_rests _ _ c.loop-i.out.items _ _ _ c.loop-i.i c.loop-i.j (elim c.loop-i-test.branch [ then-loop-i-test+else-j-ys w ↦ inr w.if-j-ys.false | else-loop-i-test w ↦ inl w.loop-i-test.false ]) c.loop-i.invariant.whole c.in_ok-extend_from_slice.ensures.items c.in_ok-extend_from_slice-2.ensures.items

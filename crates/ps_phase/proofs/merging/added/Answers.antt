@@ -1,6 +1,6 @@
 use Rattle.std.proofs.Common.{arith, inl, inr, ◌∙◌, ap, ◌++◌, []}
 use Rattle.ps_phase.specs.Adding.{put_term}
-use Rattle.ps_phase.proofs.Adding.{keep_less, keep_greater, keep_equal, start_rest}
+use Rattle.ps_phase.proofs.Adding.{keep_less, keep_greater, keep_equal, add_rests}
 use Rattle.ps_phase.proofs.merging.added.Goals as goal
 use Rattle.ps_phase.proofs.merging.added.Goals.{then-loop-i-test+else-j-ys, else-loop-i-test}
 
@@ -20,12 +20,6 @@ loop-i-preserved-in-Greater c = record {
       (keep_greater _ _ _ _ c.loop-i.i c.loop-i.j c.index-xs-i.result c.index-ys-j.result c.loop-i-test.true c.if-j-ys.true c.index-xs-i.is c.index-ys-j.is c.in-Greater.ensures c.loop-i.invariant.whole);
 }
 
-pub loop-x-init : goal.loop-x-init
-loop-x-init c = record {
-  j_in = omega arith;
-  whole = start_rest _ _ _ _ c.loop-i.i c.loop-i.j (elim c.loop-i-test.branch [ then-loop-i-test+else-j-ys w ↦ inr w.if-j-ys.false | else-loop-i-test w ↦ inl w.loop-i-test.false ]) c.loop-i.invariant.whole;
-}
-
 pub loop-i-preserved : goal.loop-i-preserved
 loop-i-preserved c = record {
   i_in = omega arith;
@@ -34,3 +28,6 @@ loop-i-preserved c = record {
       (c.in_ok-push_term-in-Equal.ensures.items ∙ ap (λ p. c.loop-i.out.items ++ put_term c.index-xs-i.result.mono p []) c.add.ensures)
       c.loop-i.invariant.whole;
 }
+
+pub returns : goal.returns
+returns c = add_rests _ _ c.loop-i.out.items _ _ _ c.loop-i.i c.loop-i.j (elim c.loop-i-test.branch [ then-loop-i-test+else-j-ys w ↦ inr w.if-j-ys.false | else-loop-i-test w ↦ inl w.loop-i-test.false ]) c.loop-i.invariant.whole c.in_ok-extend_from_slice.ensures.items c.in_ok-extend_from_slice-2.ensures.items
