@@ -4,3 +4,4 @@ pub mod Combining
 pub mod Values
 pub mod Unique
 pub mod Absorbing
+pub mod Strictness

@@ -4,6 +4,7 @@
 mod inplace;
 pub mod merging;
 pub mod poly;
+mod strict;
 pub mod terms;
 
 pub use poly::PhasePoly;

@@ -5,6 +5,7 @@ ghost use Rattle.ps_mono.specs.Sets.{stands};
 
 use super::inplace::{absorb, fits};
 use super::merging::{added, combined, push_term, scaled, selected};
+use super::strict::is_strict;
 use super::terms::Term;
 use ps_mono::{Bits, Mono};
 use ps_ring::Phase;
@@ -55,12 +56,16 @@ impl PhasePoly {
     }
 
     /// The sum of terms in any order, of which several may have one monomial: they are sorted once,
-    /// and those of one monomial added. `AllocError` is want of memory.
+    /// and those of one monomial added. Terms that are in the one form already stay as they are.
+    /// `AllocError` is want of memory.
     pub fn gather(mut terms: Vec<Term>) -> Result<PhasePoly, AllocError>
         ensures value { IfOk result (λ p. SameTurns p terms.items) }
         ensures variables { IfOk result (λ p. (v : ℕ) → phase_occurs v p ≡ true → phase_occurs v terms.items ≡ true) }
         ensures form { IfOk result (λ p. IsPhasePoly p) }
     {
+        if is_strict(&terms) {
+            return Ok(PhasePoly { terms });
+        }
         terms.sort_unstable_by(|x, y| x.mono.compare(&y.mono));
         let terms = combined(*terms.allocator(), &terms)?;
         Ok(PhasePoly { terms })
