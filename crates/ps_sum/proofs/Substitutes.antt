@@ -13,7 +13,7 @@ use Rattle.ps_phase.specs.Adding.{terms_where}
 use Rattle.ps_phase.proofs.Adding.{M, no_or, times_none}
 use Rattle.ps_phase.proofs.Scaling.{split_value}
 use Rattle.ps_phase.proofs.Values.{phase_append, one_value, phase_more, free_push, occurs_at, phase_agree}
-use Rattle.ps_sum.proofs.Lifts.{occurs_get}
+use Rattle.ps_sum.proofs.Lifts.{occurs_get, none_value, none_occurs}
 
 -- ---- the loop of `push_multiples`
 pub record Multiplied (m : List ℕ) (ts : List Term) (i : ℕ) (old out : List Term) : Type 0 where
@@ -98,7 +98,7 @@ pub record Replacing (v : ℕ) (by : List (List ℕ)) (ts : List Term) (i : ℕ)
   pub value : (a : ℕ → Bool) → phase_value out a % M ≡ phase_value (terms_where true v (take i ts)) (with_value a v (bool_value by a)) % M
   pub free : (u : ℕ) → phase_occurs u out ≡ true → may_stand u v by ts ≡ true
 
-pub replacing_start : (v : ℕ) (by : List (List ℕ)) (ts out : List Term) → out ≡ [] → Replacing v by ts 0 out
+replacing_start : (v : ℕ) (by : List (List ℕ)) (ts out : List Term) → out ≡ [] → Replacing v by ts 0 out
 unfolding terms_where phase_value phase_occurs
 replacing_start v by ts out e = record { value = λ a. ap (λ (r : List Term). phase_value r a % M) e; free = λ u h. absurd (off (sym (ap (phase_occurs u) e) ∙ h)) }
   where
@@ -131,7 +131,7 @@ replacing_with v by ts out products out' i t rest h et st er pv po ov oo s = rec
 }
 
 -- the same, as the branch gives it
-pub replacing_pushed : (v : ℕ) (by : List (List ℕ)) (ts out products used new out' : List Term) (i : ℕ) (t : Term) (rest : List ℕ) → i < length ts → t ≡ get_or ts i t → stands v t.mono ≡ true → ((w : ℕ) → stands w rest ≡ (stands w t.mono && not (nat_eq w v)))
+replacing_pushed : (v : ℕ) (by : List (List ℕ)) (ts out products used new out' : List Term) (i : ℕ) (t : Term) (rest : List ℕ) → i < length ts → t ≡ get_or ts i t → stands v t.mono ≡ true → ((w : ℕ) → stands w rest ≡ (stands w t.mono && not (nat_eq w v)))
     → ((a : ℕ → Bool) → phase_value products a % M ≡ times (bool_value by a) t.phase % M) → ((u : ℕ) → phase_occurs u products ≡ true → occurs u by ≡ true) → used ≡ products
     → ((a : ℕ → Bool) → phase_value new a ≡ phase_value out a + times (holds rest a) (phase_value used a))
     → ((u : ℕ) → stands u rest ≡ false → phase_occurs u used ≡ false → phase_occurs u out ≡ false → phase_occurs u new ≡ false)
@@ -141,12 +141,45 @@ replacing_pushed v by ts out products used new out' i t rest h et st er pv po eu
     (λ a. ap (λ (r : List Term). phase_value r a) eo ∙ ov a ∙ ap (λ (r : List Term). phase_value out a + times (holds rest a) (phase_value r a)) eu)
     (λ u a b c. ap (phase_occurs u) eo ∙ oo u a (ap (phase_occurs u) eu ∙ b) c) s
 
-pub replacing_without : (v : ℕ) (by : List (List ℕ)) (ts out out' : List Term) (i : ℕ) (t : Term) → i < length ts → t ≡ get_or ts i t → stands v t.mono ≡ false → out' ≡ out → Replacing v by ts i out → Replacing v by ts (i + 1) out'
+replacing_without : (v : ℕ) (by : List (List ℕ)) (ts out out' : List Term) (i : ℕ) (t : Term) → i < length ts → t ≡ get_or ts i t → stands v t.mono ≡ false → out' ≡ out → Replacing v by ts i out → Replacing v by ts (i + 1) out'
 replacing_without v by ts out out' i t h et st e s = record {
   value = λ a.
       let w = ap (λ (r : List Term). terms_where true v r) (take_more ts i t h ∙ ap (λ (r : Term). take i ts ++ r ∷ []) (sym et)) ∙ where_left v (take i ts) t st in
       ap (λ (r : List Term). phase_value r a % M) e ∙ s.value a ∙ ap (λ (r : List Term). phase_value r (with_value a v (bool_value by a)) % M) (sym w);
   free = λ u f. s.free u (sym (ap (phase_occurs u) e) ∙ f);
+}
+
+-- the same, with the lift by the phase of the last term that had v
+pub record Going (v : ℕ) (by : List (List ℕ)) (ts : List Term) (i : ℕ) (out : List Term) (last : ℕ) (lifted : List Term) : Type 0 where
+  pub done : Replacing v by ts i out
+  pub value : (a : ℕ → Bool) → phase_value lifted a % M ≡ times (bool_value by a) last % M
+  pub free : (u : ℕ) → phase_occurs u lifted ≡ true → occurs u by ≡ true
+
+pub going_start : (v : ℕ) (by : List (List ℕ)) (ts out : List Term) (last : ℕ) (lifted : List Term) → out ≡ [] → last ≡ 0 → lifted ≡ [] → Going v by ts 0 out last lifted
+going_start v by ts out last lifted e z el = record { done = replacing_start v by ts out e; value = none_value by last lifted z el; free = none_occurs by lifted el }
+
+-- other terms that are worth as much
+replacing_same : (v : ℕ) (by : List (List ℕ)) (ts out out' : List Term) (i : ℕ) → ((a : ℕ → Bool) → phase_value out' a % M ≡ phase_value out a % M) → ((u : ℕ) → phase_occurs u out' ≡ true → phase_occurs u out ≡ true) → Replacing v by ts i out → Replacing v by ts i out'
+replacing_same v by ts out out' i e o s = record { value = λ a. e a ∙ s.value a; free = λ u h. s.free u (o u h) }
+
+pub going_with : (v : ℕ) (by : List (List ℕ)) (ts out products used new short out' : List Term) (i : ℕ) (t : Term) (rest : List ℕ) (last last' : ℕ) (lifted lifted' : List Term) → i < length ts → t ≡ get_or ts i t → stands v t.mono ≡ true → ((w : ℕ) → stands w rest ≡ (stands w t.mono && not (nat_eq w v)))
+    → ((a : ℕ → Bool) → phase_value products a % M ≡ times (bool_value by a) t.phase % M) → ((u : ℕ) → phase_occurs u products ≡ true → occurs u by ≡ true) → used ≡ products
+    → ((a : ℕ → Bool) → phase_value new a ≡ phase_value out a + times (holds rest a) (phase_value used a))
+    → ((u : ℕ) → stands u rest ≡ false → phase_occurs u used ≡ false → phase_occurs u out ≡ false → phase_occurs u new ≡ false)
+    → ((a : ℕ → Bool) → phase_value short a % M ≡ phase_value new a % M) → ((u : ℕ) → phase_occurs u short ≡ true → phase_occurs u new ≡ true)
+    → out' ≡ short → last' ≡ t.phase → lifted' ≡ products → Going v by ts i out last lifted → Going v by ts (i + 1) out' last' lifted'
+going_with v by ts out products used new short out' i t rest last last' lifted lifted' h et st er pv po eu ov oo sv so es el ep g = record {
+  done = replacing_same v by ts new out' (i + 1) (λ a. ap (λ (r : List Term). phase_value r a % M) es ∙ sv a) (λ u f. so u (ap (phase_occurs u) (sym es) ∙ f)) (replacing_pushed v by ts out products used new new i t rest h et st er pv po eu ov oo refl g.done);
+  value = λ a. ap (λ (r : List Term). phase_value r a % M) ep ∙ pv a ∙ ap (λ n. times (bool_value by a) n % M) (sym el);
+  free = λ u f. po u (ap (phase_occurs u) (sym ep) ∙ f);
+}
+
+pub going_without : (v : ℕ) (by : List (List ℕ)) (ts out out' : List Term) (i : ℕ) (t : Term) (last last' : ℕ) (lifted lifted' : List Term) → i < length ts → t ≡ get_or ts i t → stands v t.mono ≡ false → out' ≡ out → last' ≡ last → lifted' ≡ lifted
+    → Going v by ts i out last lifted → Going v by ts (i + 1) out' last' lifted'
+going_without v by ts out out' i t last last' lifted lifted' h et st e el ep g = record {
+  done = replacing_without v by ts out out' i t h et st e g.done;
+  value = λ a. ap (λ (r : List Term). phase_value r a % M) ep ∙ g.value a ∙ ap (λ n. times (bool_value by a) n % M) (sym el);
+  free = λ u f. g.free u (ap (phase_occurs u) (sym ep) ∙ f);
 }
 
 pub replacing_value : (v : ℕ) (by : List (List ℕ)) (p ts out : List Term) (i : ℕ) → ts ≡ p → length ts ≤ i → Replacing v by ts i out → (a : ℕ → Bool) → phase_value out a % M ≡ phase_value (terms_where true v p) (with_value a v (bool_value by a)) % M

@@ -3,13 +3,18 @@ ghost use Rattle.ps_mono.specs.Sets.{holds, stands};
 ghost use Rattle.ps_mono.specs.Truth.{times, with_value};
 ghost use Rattle.ps_bool.specs.Polys.{bool_value, occurs};
 ghost use Rattle.ps_phase.specs.Adding.{terms_with};
-ghost use Rattle.ps_phase.specs.Phases.{phase_value, phase_occurs, IsPhasePoly};
+ghost use Rattle.ps_phase.specs.Phases.{phase_value, phase_occurs, IsPhasePoly, SameTurns};
 
-use super::lifting::fill_lift;
+use super::lifting::lift;
 use ps_bool::BoolPoly;
 use ps_mono::Mono;
 use ps_phase::{PhasePoly, Term};
+use ps_ring::Phase;
 use std::alloc::{AllocError, Global};
+
+// How many products may stand unsorted beside three times those that the last gathering left: few
+// enough that the list stays short where most of them cancel, and many enough that sorting pays.
+const ROOM: usize = 1000;
 
 /// The polynomial with the whole number of `by`, 0 or 1, in place of variable `v`. Where `v` stands
 /// in `by`, it keeps its meaning there. Only the terms with `v` are multiplied out and sorted; the
@@ -38,14 +43,51 @@ fn replaced(alloc: Global, poly: &PhasePoly, v: u16, by: &BoolPoly) -> Result<Ve
     ensures variables { IfOk result (λ w. (u : ℕ) → phase_occurs u w.items ≡ true → ((phase_occurs u poly.now && not (nat_eq u v)) || occurs u by.now) ≡ true) }
 {
     let mut out = Vec::new(alloc);
-    let mut products = Vec::new(alloc);
+    let mut most = ROOM;
+    let mut lifted = PhasePoly::zero(alloc);
+    let mut last = Phase::of(0);
     for term in poly.terms() {
         if term.mono.contains(v) {
-            fill_lift(&mut products, by, term.phase)?;
-            push_multiples(&mut out, &term.mono.removed(v), &products)?;
+            lifted = renewed(alloc, lifted, by, last, term.phase)?;
+            last = term.phase;
+            push_multiples(&mut out, &term.mono.removed(v), lifted.terms())?;
+            out = shortened(out, &mut most)?;
         }
     }
     Ok(out)
+}
+
+// The lift by a phase, where that by the phase before is at hand.
+fn renewed(
+    alloc: Global,
+    lifted: PhasePoly,
+    by: &BoolPoly,
+    last: Phase,
+    phase: Phase,
+) -> Result<PhasePoly, AllocError>
+    requires value { (a : ℕ → Bool) → phase_value lifted a % 4294967296 ≡ times (bool_value by.now a) last % 4294967296 }
+    requires variables { (u : ℕ) → phase_occurs u lifted ≡ true → occurs u by.now ≡ true }
+    ensures value { IfOk result (λ p. (a : ℕ → Bool) → phase_value p a % 4294967296 ≡ times (bool_value by.now a) phase % 4294967296) }
+    ensures variables { IfOk result (λ p. (u : ℕ) → phase_occurs u p ≡ true → occurs u by.now ≡ true) }
+{
+    if phase.units() == last.units() {
+        return Ok(lifted);
+    }
+    lift(alloc, by, phase)
+}
+
+// The same sum, gathered where there are more terms than `most`, which then allows three times what
+// is left.
+fn shortened(terms: Vec<Term>, most: &mut usize) -> Result<Vec<Term>, AllocError>
+    ensures value { IfOk result (λ w. SameTurns w.items terms.items) }
+    ensures variables { IfOk result (λ w. (u : ℕ) → phase_occurs u w.items ≡ true → phase_occurs u terms.items ≡ true) }
+{
+    if terms.len() <= *most {
+        return Ok(terms);
+    }
+    let terms = PhasePoly::gather(terms)?.into_terms();
+    *most = terms.len().saturating_mul(3).saturating_add(ROOM);
+    Ok(terms)
 }
 
 // The products of the monomial with the terms, at the end.
