@@ -1,6 +1,6 @@
 -- What arguments are, one after the other: sizes, indices and repeated qubits.
-use Rattle.std.proofs.Common.{◌≡◌, ◌≢◌, ℕ, zero, suc, ◌+◌, ◌-◌, ◌<◌, ◌≤◌, Bool, true, false, not, cond, List, [], ◌∷◌, ◌++◌, Option, Some, None, Result, Ok, Err, option_map, refl, sym, ap, subst, ◌∙◌, ◌&&◌, nat_eq, nat_lt, nat_le, if◌then◌else◌, length, get_or, drop, take, set, append_assoc, drop-cons, add-one, arith, min, true≢false}
-use Rattle.std.specs.Prelude.{map, bytes_eq, slice_get, All}
+use Rattle.std.proofs.Common.{◌≡◌, ◌≢◌, ℕ, zero, suc, ◌+◌, ◌-◌, ◌<◌, ◌≤◌, Bool, true, false, cond, List, [], ◌∷◌, ◌++◌, Option, Some, None, Result, Ok, Err, option_map, refl, sym, ap, subst, ◌∙◌, ◌&&◌, nat_eq, nat_le, if◌then◌else◌, length, get_or, drop, set, append_assoc, drop-cons, arith, true≢false}
+use Rattle.std.specs.Prelude.{bytes_eq, All}
 use Rattle.std.proofs.Math.ListN.{drop_of_length-le, replicate}
 use Rattle.std.proofs.lemmas.List.{get_or-set_same, get_or-set_other, get_or-replicate, append-nil, length-set}
 use Rattle.std.proofs.lemmas.Bool.Decides.{nat_tests}
@@ -10,15 +10,14 @@ use Rattle.qasm_parse.specs.declared.program.Arg.{Arg}
 use Rattle.qasm_expand.specs.declared.registers.Extent.{Extent}
 use Rattle.qasm_expand.specs.declared.target.Target.{Target}
 use Rattle.qasm_expand.specs.declared.target.Target.TheVariants.{Single, Whole}
-use Rattle.qasm_expand.specs.declared.fault.FaultName.{FaultName}
 use Rattle.qasm_expand.specs.declared.fault.FaultName.TheVariants.{Unknown}
 use Rattle.qasm_expand.specs.declared.fault.ReadFault.{ReadFault}
 use Rattle.qasm_expand.specs.Tables.{Register, register_of, registers_follow, registers_sound, qubits_in, qubit_count, is_among}
 use Rattle.qasm_expand.specs.Maps.{extent_of}
-use Rattle.qasm_expand.specs.Checks.{spelled, and_then, fault, refuse}
+use Rattle.qasm_expand.specs.Checks.{and_then, fault}
 use Rattle.qasm_expand.specs.Gates.{before, arg_names}
-use Rattle.qasm_expand.specs.Targets.{indexed, of_register, target_of, targets_of, first_uneven, index_count, qubit_at, qubits_at, repeat_at, or_else, repeat_from}
-use Rattle.qasm_expand.specs.Aims.{nameless, of_extent, agrees, size_after, Fits, Within}
+use Rattle.qasm_expand.specs.Targets.{of_register, target_of, targets_of, first_uneven, index_count, qubit_at, qubits_at, repeat_at, or_else, repeat_from}
+use Rattle.qasm_expand.specs.Aims.{of_extent, agrees, size_after, Fits, Within}
 
 pub both_left : (a b : Bool) → (a && b) ≡ true → a ≡ true
 both_left true b e = refl

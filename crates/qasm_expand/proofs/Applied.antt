@@ -1,5 +1,5 @@
 -- What an application makes of what is known.
-use Rattle.std.proofs.Common.{◌≡◌, ℕ, ◌+◌, ◌<◌, ◌≤◌, true, List, [], ◌∷◌, ◌++◌, Result, Ok, Err, refl, sym, ap, subst, ◌∙◌, length, arith}
+use Rattle.std.proofs.Common.{◌≡◌, ℕ, ◌<◌, ◌≤◌, true, List, [], ◌++◌, Result, Ok, Err, refl, sym, ap, subst, ◌∙◌, length, arith}
 use Rattle.std.specs.Prelude.{All}
 use Rattle.std.proofs.lemmas.List.{length-append}
 use Rattle.ps_prim.specs.declared.prims.Primitive.{Primitive as Prim}
@@ -20,8 +20,8 @@ use Rattle.qasm_expand.specs.Checks.{of_angle, Known}
 use Rattle.qasm_expand.specs.Bodies.{Comes, call, fault_of, unless_memory}
 use Rattle.qasm_expand.specs.States.{IsSound, ItemsWithin, Became}
 use Rattle.qasm_expand.specs.Targets.{index_count, qubits_at, aimed, items_from, expression_at, broken_at, exprs_of, Applies, missed, applies}
-use Rattle.qasm_expand.specs.Statements.{behind, with_items}
-use Rattle.qasm_expand.specs.Aims.{Fits, Within}
+use Rattle.qasm_expand.specs.Statements.{behind}
+use Rattle.qasm_expand.specs.Aims.{Within}
 use Rattle.qasm_expand.proofs.Aiming.{few_qubits}
 use Rattle.qasm_expand.proofs.Aimed.{HandsOn, Parts, parts, gate_earlier, right_arity, not_many, Ready, ready}
 use Rattle.qasm_expand.proofs.Placing.{index_more, items_count, items_within, both_within}

@@ -7,8 +7,6 @@ use Rattle.std.proofs.lemmas.List.{get_or_read, get_or-map, length-map}
 use Rattle.qasm_parse.specs.declared.program.Formula.{Formula}
 use Rattle.qasm_expand.specs.Targets.{exprs_of}
 use Rattle.std.proofs.Math.Logic.{∥∥₁_elim}
-use Rattle.std.specs.declared.vec.Vec.{Vec}
-use Rattle.std.specs.declared.alloc.Global.{Global}
 use Rattle.qasm_angle.specs.declared.types.Pair.{Pair}
 use Rattle.qasm_angle.specs.declared.types.Op.{Op}
 use Rattle.qasm_angle.specs.declared.types.Op.TheVariants.{Number, Pi, Id, Neg, Add, Sub, Mul, Div, Pow, Func}
@@ -20,7 +18,7 @@ use Rattle.qasm_angle.specs.Angles.{IsAngle}
 use Rattle.qasm_angle.specs.Machine.{leaves_one}
 use Rattle.qasm_angle.proofs.Postfix.{whole_leaves}
 use Rattle.qasm_expand.specs.declared.broken.Stop.{Stop}
-use Rattle.qasm_expand.specs.Bodies.{IsValue, IsTurn, angle, no_turn, behind_one, Each, none, one, stops, unless_memory, Answers}
+use Rattle.qasm_expand.specs.Bodies.{IsValue, IsTurn, angle, no_turn, behind_one, Each, none, one, stops, unless_memory}
 
 -- ---- the tree of an expression
 -- the operations of trees, the last tree first

@@ -1,5 +1,5 @@
 -- What is known of the gates of a sound list.
-use Rattle.std.proofs.Common.{◌≡◌, ◌<◌, ◌≤◌, ℕ, zero, suc, ◌+◌, length, length-append, add-one, add-zero, zero-add, arith, List, [], ◌∷◌, ◌++◌, refl, sym, ◌∙◌, ap, subst, append_assoc, true, ◌&&◌, Some, None}
+use Rattle.std.proofs.Common.{◌≡◌, ◌<◌, ℕ, zero, suc, ◌+◌, length, length-append, arith, List, [], ◌∷◌, ◌++◌, refl, sym, ◌∙◌, ap, subst, append_assoc, true, ◌&&◌, Some}
 use Rattle.std.specs.Prelude.{nat_eq, nat_lt, Bool, min, slice_get}
 use Rattle.std.proofs.lemmas.Bool.Decides.{nat_tests}
 use Rattle.qasm_expand.specs.declared.defs.Called.{Called}

@@ -1,7 +1,6 @@
 -- Definitions one behind the other, and names that are kept or added.
-use Rattle.std.proofs.Common.{is_some, ◌≡◌, ◌≢◌, ℕ, zero, suc, ◌+◌, ◌<◌, ◌≤◌, refl, ap, sym, ◌∙◌, subst, arith, Bool, true, false, ◌&&◌, nat_lt, Option, Some, None, List, [], ◌∷◌, ◌++◌, length, drop, get_or, bytes_eq, slice_get, Result, Ok, Err}
+use Rattle.std.proofs.Common.{is_some, ◌≡◌, ◌≢◌, ℕ, ◌+◌, ◌<◌, ◌≤◌, refl, ap, sym, ◌∙◌, subst, arith, Bool, true, false, ◌&&◌, nat_lt, Option, Some, None, List, [], ◌∷◌, ◌++◌, length, drop, get_or, Result, Ok, Err}
 use Rattle.std.proofs.lemmas.List.{drop_more, drop_all}
-use Rattle.std.proofs.lemmas.Option.{get_or_from_slice_get, slice_get_within}
 use Rattle.std.proofs.lemmas.Bool.Decides.{nat_tests}
 use Rattle.qasm_parse.specs.declared.program.Span.{Span}
 use Rattle.qasm_parse.specs.declared.program.Inner.{Inner as Stated}
@@ -10,11 +9,9 @@ use Rattle.qasm_parse.specs.declared.program.Statement.TheVariants as statement
 use Rattle.qasm_expand.specs.declared.defs.Def.{Def}
 use Rattle.qasm_expand.specs.declared.state.State.{State}
 use Rattle.qasm_expand.specs.declared.state.Shelf.{Shelf}
-use Rattle.qasm_expand.specs.declared.fault.FaultName.{FaultName}
 use Rattle.qasm_expand.specs.declared.fault.ReadFault.{ReadFault}
 use Rattle.qasm_expand.specs.declared.fault.ReadFault.TheVariants.{Fault, Memory}
-use Rattle.qasm_expand.specs.Tables.{Bound, meaning, rebound, bound_sound, defs_sound}
-use Rattle.qasm_expand.specs.Maps.{bound_of}
+use Rattle.qasm_expand.specs.Tables.{Bound, meaning, bound_sound, defs_sound}
 use Rattle.qasm_expand.specs.Checks.{and_then, Known}
 use Rattle.qasm_expand.specs.Library.{library_text, TextIs, Gates, defined, all_defined, with_library, library_read, kept_or, with_all, Includes, first, again}
 use Rattle.qasm_expand.specs.States.{Became, IsSound}

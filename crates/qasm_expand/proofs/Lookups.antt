@@ -1,5 +1,5 @@
 -- Maps by names, as they are kept, find and keep what their lists do.
-use Rattle.std.proofs.Common.{◌≡◌, ◌<◌, ◌≤◌, ◌+◌, ℕ, suc, Bool, true, false, cond, not, ◌||◌, if◌then◌else◌, Option, Some, None, option_map, List, [], ◌∷◌, ◌++◌, map, length, Vec, Global, vec_items, refl, sym, ap, ap₂, ◌∙◌, arith, bytes_eq, nat_eq, nat_lt, Decides, true≢false, position, lt-ltb, le-ltb, ltb-true, ltb-false}
+use Rattle.std.proofs.Common.{◌≡◌, ◌<◌, ◌≤◌, ◌+◌, ℕ, suc, Bool, true, false, cond, not, ◌||◌, if◌then◌else◌, Option, Some, None, option_map, List, [], ◌∷◌, ◌++◌, map, length, Vec, Global, vec_items, refl, sym, ap, ap₂, ◌∙◌, arith, bytes_eq, nat_lt, Decides, true≢false, position, lt-ltb, le-ltb, ltb-true, ltb-false}
 use Rattle.std.proofs.lemmas.Slice.Eq.{bytes_eq-Decides}
 use Rattle.std.specs.Map.{lookup}
 use Rattle.std.specs.Option.{is_none}
@@ -7,7 +7,7 @@ use Rattle.std.specs.List.{position_or_len, list_any}
 use Rattle.std.proofs.lemmas.List.{map-append}
 use Rattle.indexmap.specs.IndexMap.{insert_entry}
 use Rattle.indexmap.specs.IndexSet.{insert_key}
-use Rattle.qasm_expand.specs.Tables.{Bound, meaning, rebound}
+use Rattle.qasm_expand.specs.Tables.{meaning, rebound}
 use Rattle.qasm_expand.specs.Maps.{bound_of}
 use Rattle.qasm_expand.specs.Gates.{place_of}
 

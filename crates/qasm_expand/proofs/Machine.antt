@@ -1,9 +1,8 @@
 -- Bodies done application by application come to what the definition says.
-use Rattle.std.proofs.Common.{◌≡◌, ◌≢◌, ◌<◌, ◌≤◌, ℕ, zero, suc, ◌+◌, ◌-◌, length, length-append, get_or, drop, drop-cons, add-one, zero-add, arith, List, [], ◌∷◌, ◌++◌, map, reverse, refl, sym, ◌∙◌, ap, subst, append_assoc, append-nil, true, Some, None, Result, Ok, Err}
+use Rattle.std.proofs.Common.{◌≡◌, ◌≢◌, ◌<◌, ◌≤◌, ℕ, zero, suc, ◌+◌, ◌-◌, length, get_or, drop, drop-cons, add-one, zero-add, arith, List, [], ◌∷◌, ◌++◌, map, reverse, refl, sym, ◌∙◌, ap, subst, append_assoc, append-nil, true, Some, Result, Ok, Err}
 use Rattle.std.specs.Prelude.{slice_get}
 use Rattle.std.specs.List.{range_with_len}
 use Rattle.std.proofs.lemmas.List.{reverse-append, map-append, length-map}
-use Rattle.std.proofs.lemmas.Option.{slice_get-get_or}
 use Rattle.ps_prim.specs.declared.prims.Primitive.{Primitive as Prim}
 use Rattle.ps_prim.specs.Maps.{AllWithin}
 use Rattle.qasm_angle.specs.declared.types.Op.{Op}
@@ -17,12 +16,12 @@ use Rattle.qasm_expand.specs.declared.broken.Broken.{Broken}
 use Rattle.qasm_expand.specs.declared.broken.Stop.{Stop}
 use Rattle.qasm_expand.specs.declared.broken.Broken.TheVariants.{Own, Inside}
 use Rattle.qasm_expand.specs.declared.frame.Frame.{Frame}
-use Rattle.qasm_expand.specs.Tables.{size_of, size_of_def, args_of, args_of_def, defs_sound}
-use Rattle.qasm_expand.specs.Bodies.{on_qubits, all_on, fault_of, joined, IsValue, IsTurn, Each, unless_memory, Answers, Job, call, rest, Comes, nothing, universal, no_angle, controlled, replaced, no_value, ended, applied, broken}
-use Rattle.qasm_expand.specs.Frames.{InnerFits, BodyFits, DefFits, body_of_def, left_of, FrameFits, Left, all_done, one_done, one_stops, works, work, frame_work, stack_work, Opens}
+use Rattle.qasm_expand.specs.Tables.{size_of, size_of_def, args_of, defs_sound}
+use Rattle.qasm_expand.specs.Bodies.{on_qubits, all_on, fault_of, joined, IsValue, Each, unless_memory, Answers, call, rest, Comes, replaced, no_value, ended, applied, broken}
+use Rattle.qasm_expand.specs.Frames.{InnerFits, BodyFits, body_of_def, left_of, Left, all_done, one_done, one_stops, works, work, frame_work, stack_work, Opens}
 use Rattle.qasm_expand.proofs.Expressions.{unless_map}
 use Rattle.qasm_expand.proofs.Fitting.{def_fits}
-use Rattle.qasm_expand.proofs.Prims.{all_both, all_on_range, WithinIf, comes_within}
+use Rattle.qasm_expand.proofs.Prims.{all_both, all_on_range, comes_within}
 
 -- ---- lists
 pub flip : {X : Type 0} (xs ys : List X) (x : X) → xs ≡ ys ++ (x ∷ []) → reverse xs ≡ x ∷ reverse ys

@@ -1,9 +1,8 @@
 -- There is one reading of a text and of a block, where there is one of each application.
-use Rattle.std.proofs.Common.{◌≡◌, ℕ, refl, ap, sym, ◌∙◌, subst, Bool, true, false, List, [], ◌∷◌, length, Option, Some, None, Result, Ok, Err}
+use Rattle.std.proofs.Common.{◌≡◌, ℕ, refl, ap, sym, ◌∙◌, subst, List, [], length, Option, Some, None, Result, Ok, Err}
 use Rattle.ps_prim.specs.declared.prims.Primitive.{Primitive as Prim}
 use Rattle.qasm_lex.specs.declared.types.Token.{Token}
 use Rattle.qasm_lex.specs.declared.types.LexFault.{LexFault}
-use Rattle.qasm_lex.specs.Tokens.{Reads}
 use Rattle.qasm_lex.proofs.One.{one_reading}
 use Rattle.qasm_angle.specs.declared.types.Pair.{Pair}
 use Rattle.qasm_parse.specs.declared.fault.ParseFault.{ParseFault}

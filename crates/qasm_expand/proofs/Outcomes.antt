@@ -1,26 +1,24 @@
 -- Each expression has one value, and each application one outcome.
-use Rattle.std.proofs.Common.{◌≡◌, ◌≢◌, ◌<◌, ◌≤◌, ℕ, zero, suc, ◌+◌, ◌*◌, ◌^◌, ◌⊎◌, inl, inr, zero-mul, length, arith, List, [], ◌∷◌, ◌++◌, refl, sym, ◌∙◌, ap, subst, append_assoc, append-nil, true, Bool, Some, None, Result, Ok, Err}
-use Rattle.std.specs.Prelude.{slice_get, ℤ, pos, negsuc, ◌+ℤ◌, ◌*ℤ◌, nat_abs}
+use Rattle.std.proofs.Common.{◌≡◌, ◌≢◌, ◌<◌, ℕ, ◌*◌, ◌^◌, ◌⊎◌, inl, inr, zero-mul, arith, List, [], ◌∷◌, ◌++◌, refl, sym, ◌∙◌, ap, subst, append_assoc, append-nil, Some, Result, Ok, Err}
+use Rattle.std.specs.Prelude.{slice_get, ℤ, pos, ◌*ℤ◌, nat_abs}
 use Rattle.std.proofs.lemmas.Int.{ints}
 use Rattle.std.proofs.lemmas.Nat.{pow_pos}
 use Rattle.ps_prim.specs.declared.prims.Primitive.{Primitive as Prim}
-use Rattle.ps_prim.specs.declared.prims.Primitive.TheVariants.{U as UPrim, Cx as CxPrim}
+use Rattle.ps_prim.specs.declared.prims.Primitive.TheVariants.{U as UPrim}
 use Rattle.qasm_angle.specs.declared.types.Op.{Op}
 use Rattle.qasm_angle.specs.declared.types.Pair.{Pair}
 use Rattle.qasm_angle.specs.declared.types.AngleFault.{AngleFault}
 use Rattle.qasm_angle.specs.declared.types.AngleFault.TheVariants.{NotDyadic, AngleRange, NoParameter, Function, ByZero, Memory}
-use Rattle.qasm_angle.specs.Fractions.{signed, below_zero}
+use Rattle.qasm_angle.specs.Fractions.{below_zero}
 use Rattle.qasm_angle.specs.Trees.{wants, Tree, leaf, one as one_tree, two, postfix}
-use Rattle.qasm_angle.specs.Values.{JoinedIs, Values, leaf_is, one_is, one_fault, two_is, left_fault, right_fault, Told}
+use Rattle.qasm_angle.specs.Values.{JoinedIs, Values, leaf_is, one_is, one_fault, two_is, left_fault, right_fault}
 use Rattle.qasm_angle.specs.Machine.{Runs, ended as all_run, leaf_on, leaf_off, one_on, two_on, two_off}
 use Rattle.qasm_angle.specs.Angles.{IsUnits, IsResidue, IsAngle}
 use Rattle.qasm_angle.proofs.Lowest.{cancel, signed_self}
 use Rattle.qasm_angle.proofs.Signs.{same_signed, signed_same, scaled_side}
 use Rattle.qasm_angle.proofs.Postfix.{runs_value}
 use Rattle.qasm_angle.proofs.Single.{only_value}
-use Rattle.qasm_expand.specs.declared.defs.Called.{Called}
-use Rattle.qasm_expand.specs.declared.defs.Called.TheVariants.{U, Cx, Def as ADef}
-use Rattle.qasm_expand.specs.declared.defs.Inner.{Inner}
+use Rattle.qasm_expand.specs.declared.defs.Called.TheVariants.{Def as ADef}
 use Rattle.qasm_expand.specs.declared.defs.Def.{Def}
 use Rattle.qasm_expand.specs.declared.broken.Stop.{Stop}
 use Rattle.qasm_expand.specs.declared.broken.Broken.{Broken}

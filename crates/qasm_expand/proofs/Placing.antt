@@ -1,8 +1,7 @@
 -- Prims on the qubits of targets, and items for each index.
-use Rattle.std.proofs.Common.{◌≡◌, ◌≢◌, ℕ, zero, suc, ◌+◌, ◌-◌, ◌<◌, ◌≤◌, Bool, true, false, not, cond, List, [], ◌∷◌, ◌++◌, Option, Some, None, Result, Ok, Err, refl, sym, ap, subst, ◌∙◌, ◌&&◌, nat_eq, if◌then◌else◌, length, get_or, take, drop, append_assoc, arith, true≢false}
-use Rattle.std.specs.Prelude.{map, All}
-use Rattle.std.proofs.lemmas.List.{length-map, length-append, get_or-map, append-nil}
-use Rattle.std.proofs.lemmas.Bool.{eqb-true}
+use Rattle.std.proofs.Common.{◌≡◌, ◌≢◌, ℕ, zero, suc, ◌+◌, ◌<◌, ◌≤◌, Bool, true, false, not, List, [], ◌∷◌, ◌++◌, refl, sym, ap, ◌∙◌, nat_eq, if◌then◌else◌, length, get_or, append_assoc, arith, true≢false}
+use Rattle.std.specs.Prelude.{All}
+use Rattle.std.proofs.lemmas.List.{length-map, get_or-map, append-nil}
 use Rattle.std.proofs.lemmas.Bool.Decides.{nat_tests}
 use Rattle.ps_prim.specs.declared.prims.Primitive.{Primitive as Prim}
 use Rattle.ps_prim.specs.declared.prims.Primitive.TheVariants.{U, Cx}

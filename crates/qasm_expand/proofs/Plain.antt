@@ -1,5 +1,5 @@
 -- In a block no statement but an application or a barrier can stand.
-use Rattle.std.proofs.Common.{◌≡◌, ℕ, ◌+◌, List, [], ◌∷◌, Result, Ok, Err, refl, sym, subst}
+use Rattle.std.proofs.Common.{◌≡◌, ℕ, ◌+◌, List, [], ◌∷◌, Ok, refl, sym, subst}
 use Rattle.std.specs.Prelude.{All}
 use Rattle.std.proofs.lemmas.List.Elements.{All-nil, All-cons}
 use Rattle.qasm_lex.specs.declared.types.Token.{Token}
@@ -10,8 +10,7 @@ use Rattle.qasm_parse.specs.declared.program.Call.{Call}
 use Rattle.qasm_parse.specs.declared.program.Statement.{Statement}
 use Rattle.qasm_parse.specs.declared.program.Statement.TheVariants.{Include, Qreg, Creg, Gate, Apply, Barrier}
 use Rattle.qasm_parse.specs.declared.whence.Whence.{Whence}
-use Rattle.qasm_parse.specs.declared.whence.Whence.TheVariants.{Text, Block}
-use Rattle.qasm_parse.specs.declared.fault.ParseFault.{ParseFault}
+use Rattle.qasm_parse.specs.declared.whence.Whence.TheVariants.{Block}
 use Rattle.qasm_parse.specs.Sorts.{sorts_of}
 use Rattle.qasm_parse.specs.Phrases.{Got, got, miss, put, Gives, After, after, elsewhere, Then, then, missed}
 use Rattle.qasm_parse.specs.Statements.{IsStatement, apply, barrier, declares, outside, opaquely, no_statement, IsProgram, over, statement, faulty, answer, OfBlock}

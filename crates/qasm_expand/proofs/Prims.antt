@@ -1,23 +1,19 @@
 -- Prims on places: replacing, how many they are, and where they are.
-use Rattle.std.proofs.Common.{◌≡◌, ◌≢◌, ◌<◌, ◌≤◌, ℕ, zero, suc, ◌+◌, length, length-append, get_or, add-one, zero-add, arith, List, [], ◌∷◌, ◌++◌, map, refl, sym, ◌∙◌, ap, subst, append_assoc, append-nil, true, false, ◌&&◌, Some, None, Result, Ok, Err}
-use Rattle.std.specs.Prelude.{nat_eq, nat_lt, Bool, not, min, slice_get, if◌then◌else◌}
+use Rattle.std.proofs.Common.{◌≡◌, ◌≢◌, ◌<◌, ◌≤◌, ℕ, zero, suc, ◌+◌, length, length-append, get_or, add-one, zero-add, arith, List, [], ◌∷◌, ◌++◌, map, refl, sym, ◌∙◌, ap, subst, true, false, ◌&&◌, Result, Ok, Err}
+use Rattle.std.specs.Prelude.{nat_eq, nat_lt, Bool, not, min, if◌then◌else◌}
 use Rattle.std.specs.List.{range_with_len}
 use Rattle.std.proofs.lemmas.Bool.Decides.{nat_tests}
-use Rattle.std.proofs.lemmas.List.{get_or-map, map-append, length-map}
+use Rattle.std.proofs.lemmas.List.{get_or-map, length-map}
 use Rattle.std.proofs.lemmas.List.FromFn.{get_or-range_with_len}
 use Rattle.ps_prim.specs.declared.prims.Primitive.{Primitive as Prim}
 use Rattle.ps_prim.specs.declared.prims.Primitive.TheVariants.{U as UPrim, Cx as CxPrim}
 use Rattle.ps_prim.specs.Maps.{IsWithin, AllWithin}
 use Rattle.qasm_angle.specs.declared.types.Pair.{Pair}
-use Rattle.qasm_expand.specs.declared.defs.Called.{Called}
-use Rattle.qasm_expand.specs.declared.defs.Called.TheVariants.{U, Cx, Def as ADef}
-use Rattle.qasm_expand.specs.declared.defs.Inner.{Inner}
 use Rattle.qasm_expand.specs.declared.defs.Def.{Def}
 use Rattle.qasm_expand.specs.declared.broken.Broken.{Broken}
-use Rattle.qasm_expand.specs.declared.broken.Broken.TheVariants.{Own, Inside}
-use Rattle.qasm_expand.specs.Tables.{args_of_def, size_of_def, args_of, size_of, prim_count, body_size, is_among, all_below, all_different, defs_sound}
+use Rattle.qasm_expand.specs.Tables.{args_of_def, size_of_def, args_of, size_of, prim_count, is_among, all_below, all_different, defs_sound}
 use Rattle.qasm_expand.specs.Bodies.{on_qubits, all_on, joined, Job, call, rest, Comes, nothing, universal, no_angle, controlled, replaced, no_value, ended, applied, broken}
-use Rattle.qasm_expand.specs.Frames.{InnerFits, BodyFits, DefFits}
+use Rattle.qasm_expand.specs.Frames.{BodyFits}
 use Rattle.qasm_expand.proofs.Fitting.{test_lt, def_fits}
 
 -- ---- replacing twice

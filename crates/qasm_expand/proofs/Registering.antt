@@ -1,12 +1,12 @@
 -- Looking names up in tables, and declaring registers.
-use Rattle.std.proofs.Common.{◌≡◌, ℕ, ◌+◌, ◌<◌, ◌≤◌, Bool, true, false, cond, List, [], ◌∷◌, ◌++◌, Option, Some, None, option_map, Vec, Global, refl, sym, ap, subst, ◌∙◌, ◌&&◌, nat_eq, nat_lt, nat_le, if◌then◌else◌, arith}
+use Rattle.std.proofs.Common.{◌≡◌, ℕ, ◌+◌, Bool, true, false, cond, List, [], ◌∷◌, ◌++◌, Option, Some, None, option_map, Vec, Global, refl, sym, ap, ◌∙◌, ◌&&◌, nat_eq, arith}
 use Rattle.std.specs.Prelude.{map, bytes_eq}
 use Rattle.std.specs.Map.{lookup}
 use Rattle.std.proofs.lemmas.Bool.Decides.{nat_tests}
 use Rattle.indexmap.specs.IndexMap.{insert_entry}
 use Rattle.qasm_expand.specs.declared.registers.Extent.{Extent}
-use Rattle.qasm_expand.specs.Tables.{Register, Bound, register_of, meaning, qubits_in, qubit_count}
-use Rattle.qasm_expand.specs.Maps.{extent_of, register_with, bound_of}
+use Rattle.qasm_expand.specs.Tables.{Register, register_of, qubits_in, qubit_count}
+use Rattle.qasm_expand.specs.Maps.{extent_of, register_with}
 
 same_numbers : (x y : ℕ) → nat_eq x y ≡ nat_eq y x
 same_numbers x y = grind (arith, nat_tests)

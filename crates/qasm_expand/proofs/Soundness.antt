@@ -1,15 +1,14 @@
 -- What holds of a gate that passed the checks of its definition.
-use Rattle.std.proofs.Common.{◌≡◌, ◌<◌, ◌≤◌, ◌+◌, ℕ, zero, suc, Bool, true, false, ◌&&◌, ◌||◌, not, if◌then◌else◌, Option, Some, None, option_map, List, [], ◌∷◌, ◌++◌, map, length, get_or, slice_get, Result, Ok, Err, refl, sym, ap, ap₂, ◌∙◌, subst, subst₂, arith, append_assoc, append-nil, true≢false, lt-ltb, ltb-true, eq-eqb, eqb-true, nat_eq, nat_lt, bytes_eq, All}
+use Rattle.std.proofs.Common.{◌≡◌, ◌<◌, ◌≤◌, ◌+◌, ℕ, zero, suc, Bool, true, false, ◌&&◌, ◌||◌, not, if◌then◌else◌, Option, Some, None, option_map, List, [], ◌∷◌, ◌++◌, map, length, get_or, Result, Ok, Err, refl, sym, ap, ap₂, ◌∙◌, subst, subst₂, arith, append_assoc, append-nil, true≢false, lt-ltb, ltb-true, eq-eqb, eqb-true, nat_eq, nat_lt, bytes_eq, All}
 use Rattle.std.proofs.lemmas.List.{length-map}
 use Rattle.qasm_parse.specs.declared.program.Span.{Span}
-use Rattle.qasm_parse.specs.declared.program.Arg.{Arg}
 use Rattle.qasm_parse.specs.declared.program.Formula.{Formula}
 use Rattle.qasm_parse.specs.declared.program.Call.{Call}
 use Rattle.qasm_parse.specs.declared.program.Called.{Called as Word}
 use Rattle.qasm_parse.specs.declared.program.Called.TheVariants.{U as UWord, Cx as CxWord, Named}
 use Rattle.qasm_parse.specs.declared.program.Inner.{Inner as Stated}
 use Rattle.qasm_parse.specs.declared.program.Inner.TheVariants.{Apply, Barrier}
-use Rattle.qasm_parse.specs.Places.{SpanIn, ArgIn, IdBelow, FormulaIn, CallIn, InnerIn}
+use Rattle.qasm_parse.specs.Places.{IdBelow, FormulaIn, CallIn, InnerIn}
 use Rattle.qasm_angle.specs.declared.types.Op.{Op}
 use Rattle.qasm_angle.specs.declared.types.Op.TheVariants.{Id}
 use Rattle.qasm_expand.specs.declared.defs.Called.{Called}
@@ -17,7 +16,7 @@ use Rattle.qasm_expand.specs.declared.defs.Called.TheVariants.{U, Cx, Def as ADe
 use Rattle.qasm_expand.specs.declared.defs.Inner.{Inner}
 use Rattle.qasm_expand.specs.declared.defs.Def.{Def}
 use Rattle.qasm_expand.specs.declared.fault.FaultName.{FaultName}
-use Rattle.qasm_expand.specs.declared.fault.FaultName.TheVariants.{Unknown, NoParameter, Arity, RepeatedQubit, Redeclared}
+use Rattle.qasm_expand.specs.declared.fault.FaultName.TheVariants.{Unknown, NoParameter}
 use Rattle.qasm_expand.specs.declared.fault.ReadFault.{ReadFault}
 use Rattle.qasm_expand.specs.Checks.{spelled, and_then, or_fault, unless, refuse}
 use Rattle.qasm_expand.specs.Tables.{Bound, meaning, rebound, params_of, args_of, body_size, is_among, all_different, all_below, op_below, ops_below, exprs_below, is_earlier, inner_sound, body_sound, def_sound, defs_sound_from, defs_sound, bound_sound}

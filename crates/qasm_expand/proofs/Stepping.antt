@@ -1,18 +1,16 @@
 -- Lists read one by one, up to the first fault.
-use Rattle.std.proofs.Common.{◌≡◌, ◌<◌, ◌≤◌, ◌+◌, ℕ, suc, Bool, true, false, if◌then◌else◌, ◌||◌, not, nat_eq, ap₂, Option, Some, None, List, [], ◌∷◌, ◌++◌, map, length, take, drop, get_or, Result, Ok, Err, refl, sym, ap, ◌∙◌, subst, arith, append_assoc, append-nil, drop-cons, drop_of_length-le, true≢false}
+use Rattle.std.proofs.Common.{◌≡◌, ◌<◌, ◌+◌, ℕ, suc, Bool, true, false, if◌then◌else◌, ◌||◌, not, nat_eq, ap₂, Option, Some, None, List, [], ◌∷◌, ◌++◌, length, drop, get_or, Result, Ok, Err, refl, sym, ap, ◌∙◌, subst, arith, append_assoc, append-nil, drop-cons, true≢false}
 use Rattle.std.specs.Option.{is_none}
 use Rattle.std.specs.List.{list_any}
 use Rattle.indexmap.specs.IndexSet.{insert_key}
-use Rattle.std.proofs.lemmas.List.{map-append}
 use Rattle.qasm_parse.specs.declared.program.Span.{Span}
 use Rattle.qasm_parse.specs.declared.program.Arg.{Arg}
 use Rattle.qasm_parse.specs.declared.program.Formula.{Formula}
-use Rattle.qasm_angle.specs.declared.types.Op.{Op}
 use Rattle.qasm_expand.specs.declared.fault.FaultName.{FaultName}
-use Rattle.qasm_expand.specs.declared.fault.FaultName.TheVariants.{Unknown, NoParameter, Redeclared, RepeatedQubit}
+use Rattle.qasm_expand.specs.declared.fault.FaultName.TheVariants.{Unknown, NoParameter}
 use Rattle.qasm_expand.specs.declared.fault.ReadFault.{ReadFault}
 use Rattle.qasm_expand.specs.declared.fault.ReadFault.TheVariants.{Fault, Memory}
-use Rattle.qasm_expand.specs.Checks.{spelled, and_then, or_fault, unless, refuse, Known}
+use Rattle.qasm_expand.specs.Checks.{spelled, and_then, or_fault, Known}
 use Rattle.qasm_expand.specs.Gates.{place_of, places, numbers, before, expression, expressions, first_again, again, names, first_repeated, arg_names}
 use Rattle.qasm_expand.specs.Tables.{is_among}
 use Rattle.qasm_expand.specs.Names.{put_before, checked}

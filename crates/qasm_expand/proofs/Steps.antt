@@ -1,14 +1,13 @@
 -- What the calls that do a body's applications promise, from what they read.
-use Rattle.std.proofs.Common.{◌≡◌, ◌≢◌, ◌<◌, ◌≤◌, ℕ, zero, suc, ◌+◌, length, length-append, get_or, drop, add-one, zero-add, arith, List, [], ◌∷◌, ◌++◌, map, reverse, refl, sym, ◌∙◌, ap, subst, append_assoc, append-nil, true, Some, None, Result, Ok, Err}
-use Rattle.std.specs.Prelude.{slice_get, All, MatchResult, IfOk}
+use Rattle.std.proofs.Common.{◌≡◌, ◌≢◌, ◌<◌, ◌≤◌, ℕ, ◌+◌, length, get_or, arith, List, [], ◌∷◌, ◌++◌, map, reverse, refl, sym, ◌∙◌, ap, subst, append-nil, true, Some, Result, Ok, Err}
+use Rattle.std.specs.Prelude.{slice_get, MatchResult, IfOk}
 use Rattle.std.specs.declared.vec.Vec.{Vec}
 use Rattle.std.specs.declared.alloc.Global.{Global}
 use Rattle.std.proofs.lemmas.List.FromFn.{length-range_with_len}
 use Rattle.ps_prim.specs.Maps.{AllWithin}
 use Rattle.qasm_angle.specs.declared.types.AngleFault.TheVariants.{Memory}
 use Rattle.std.specs.List.{range_with_len}
-use Rattle.std.proofs.lemmas.List.{get_or_read, reverse-append}
-use Rattle.std.proofs.lemmas.List.Elements.{All-push}
+use Rattle.std.proofs.lemmas.List.{get_or_read}
 use Rattle.std.proofs.lemmas.Option.{slice_get_read}
 use Rattle.std.proofs.Math.ListN.{drop_of_length-le}
 use Rattle.ps_prim.specs.declared.prims.Primitive.{Primitive as Prim}
@@ -24,10 +23,9 @@ use Rattle.qasm_expand.specs.declared.broken.Stop.{Stop}
 use Rattle.qasm_expand.specs.declared.broken.Broken.{Broken}
 use Rattle.qasm_expand.specs.declared.broken.Broken.TheVariants.{Own, Inside}
 use Rattle.qasm_expand.specs.declared.frame.Frame.{Frame}
-use Rattle.qasm_expand.specs.declared.frame.Outcome.TheVariants.{Nothing, Prim as APrim, Body as ABody}
 use Rattle.qasm_expand.specs.Tables.{params_of, size_of, size_of_def, args_of, args_of_def, all_below, is_earlier, defs_sound}
-use Rattle.qasm_expand.specs.Bodies.{IsValue, IsTurn, Each, Answers, Tells, on_qubits, all_on, fault_of, joined, unless_memory, call, rest, Comes, nothing, universal, no_angle, controlled, replaced, no_value}
-use Rattle.qasm_expand.specs.Frames.{InnerFits, BodyFits, left_of, FrameFits, Left, all_done, frame_work, stack_work, Opens, Does, Steps, Turned, TurnedIn, work}
+use Rattle.qasm_expand.specs.Bodies.{IsValue, IsTurn, Each, Answers, Tells, on_qubits, all_on, fault_of, joined, unless_memory, call, Comes, nothing, universal, no_angle, controlled, replaced, no_value}
+use Rattle.qasm_expand.specs.Frames.{InnerFits, left_of, FrameFits, Left, all_done, frame_work, stack_work, Opens, Steps, Turned, TurnedIn, work}
 use Rattle.qasm_expand.proofs.Expressions.{unless_map}
 use Rattle.qasm_expand.proofs.Fitting.{earlier_lt}
 use Rattle.qasm_expand.proofs.Prims.{below_at, comes_count, comes_within}

@@ -1,5 +1,5 @@
 -- One statement behind the other.
-use Rattle.std.proofs.Common.{◌≡◌, ℕ, ◌+◌, ◌<◌, ◌≤◌, refl, ap, sym, ◌∙◌, subst, arith, true, false, List, [], ◌∷◌, ◌++◌, length, drop, get_or, Result, Ok, Err}
+use Rattle.std.proofs.Common.{◌≡◌, ℕ, ◌+◌, ◌<◌, ◌≤◌, refl, ap, sym, ◌∙◌, subst, true, false, List, ◌++◌, length, drop, get_or, Result, Ok, Err}
 use Rattle.std.proofs.lemmas.List.{drop_more, drop_all}
 use Rattle.ps_prim.specs.declared.prims.Primitive.{Primitive as Prim}
 use Rattle.qasm_parse.specs.declared.program.Span.{Span}
@@ -9,7 +9,6 @@ use Rattle.qasm_parse.specs.declared.program.Inner.{Inner as Stated}
 use Rattle.qasm_parse.specs.declared.program.Statement.{Statement}
 use Rattle.qasm_parse.specs.declared.program.Statement.TheVariants as statement
 use Rattle.qasm_expand.specs.declared.state.State.{State}
-use Rattle.qasm_expand.specs.declared.fault.FaultName.{FaultName}
 use Rattle.qasm_expand.specs.declared.fault.ReadFault.{ReadFault}
 use Rattle.qasm_expand.specs.declared.fault.ReadFault.TheVariants.{Fault, Memory}
 use Rattle.qasm_expand.specs.Library.{Includes, defining}

@@ -1,5 +1,5 @@
 -- What the statements of a text and of a block are, from its tokens and its grammar; and what the text is.
-use Rattle.std.proofs.Common.{◌≡◌, ◌≢◌, ℕ, ◌≤◌, refl, ap, sym, ◌∙◌, subst, true, false, nat_eq, List, [], ◌∷◌, length, Result, Ok, Err, if◌then◌else◌}
+use Rattle.std.proofs.Common.{◌≡◌, ℕ, sym, subst, List, Result, Ok, Err}
 use Rattle.qasm_lex.specs.declared.types.Token.{Token}
 use Rattle.qasm_lex.specs.declared.types.LexFault.{LexFault}
 use Rattle.qasm_lex.specs.declared.types.LexFault.TheVariants as lex
@@ -9,7 +9,6 @@ use Rattle.qasm_parse.specs.declared.fault.ParseFault.TheVariants as parse
 use Rattle.qasm_parse.specs.declared.program.Statement.{Statement}
 use Rattle.qasm_parse.specs.Statements.{OfText, OfBlock, Known as KnownProgram}
 use Rattle.qasm_expand.specs.declared.state.State.{State}
-use Rattle.qasm_expand.specs.declared.fault.FaultName.{FaultName}
 use Rattle.qasm_expand.specs.declared.fault.ReadFault.{ReadFault}
 use Rattle.qasm_expand.specs.declared.fault.ReadFault.TheVariants.{Fault, Memory}
 use Rattle.qasm_expand.specs.declared.tables.Circuit.{Circuit}
@@ -17,8 +16,8 @@ use Rattle.qasm_expand.specs.Checks.{of_tokens, of_grammar, Known}
 use Rattle.qasm_expand.specs.Library.{TextIs, bad_tokens, by_grammar, BlockIs, bad_block_tokens, by_block_grammar}
 use Rattle.qasm_expand.specs.States.{Became}
 use Rattle.qasm_expand.specs.Statements.{Expands}
-use Rattle.qasm_expand.specs.Circuits.{CircuitOf, nothing_yet, closed, ReadsText, misread, expanded, TableOf, behind_text, items_of, ReadsBlock, misread_block, expanded_block}
-use Rattle.qasm_expand.specs.Reading.{circuit_in, CircuitTold, ItemsTold}
+use Rattle.qasm_expand.specs.Circuits.{CircuitOf, nothing_yet, closed, ReadsText, misread, expanded, TableOf, behind_text, ReadsBlock, misread_block, expanded_block}
+use Rattle.qasm_expand.specs.Reading.{CircuitTold, ItemsTold}
 use Rattle.ps_prim.specs.declared.prims.Primitive.{Primitive as Prim}
 
 -- ---- statements

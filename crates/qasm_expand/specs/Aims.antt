@@ -1,5 +1,5 @@
 -- Words for the steps of aiming at targets.
-use Rattle.std.specs.Prelude.{◌≡◌, ℕ, ◌+◌, ◌<◌, ◌≤◌, Bool, true, not, nat_eq, Option, Some, None, List, [], ◌∷◌, Result}
+use Rattle.std.specs.Prelude.{ℕ, ◌+◌, ◌<◌, ◌≤◌, Bool, true, not, nat_eq, Option, Some, None, List, [], Result}
 use Rattle.qasm_expand.specs.declared.target.Target.{Target}
 use Rattle.qasm_expand.specs.declared.target.Target.TheVariants.{Single, Whole}
 use Rattle.qasm_parse.specs.declared.program.Arg.{Arg}

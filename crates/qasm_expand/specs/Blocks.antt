@@ -2,7 +2,7 @@
 use Rattle.std.specs.Prelude.{List}
 use Rattle.ps_prim.specs.declared.prims.Primitive.{Primitive as Prim}
 use Rattle.qasm_parse.specs.declared.program.Statement.{Statement}
-use Rattle.qasm_parse.specs.declared.program.Statement.TheVariants.{Include, Qreg, Creg, Gate, Apply, Barrier}
+use Rattle.qasm_parse.specs.declared.program.Statement.TheVariants.{Apply, Barrier}
 use Rattle.qasm_expand.specs.declared.state.State.{State}
 use Rattle.qasm_expand.specs.declared.tables.Table.{Table}
 use Rattle.qasm_expand.specs.States.{in_block}

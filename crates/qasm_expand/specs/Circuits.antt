@@ -1,5 +1,5 @@
 -- What a whole text is, and what a block is behind a text.
-use Rattle.std.specs.Prelude.{◌≡◌, ℕ, nat_eq, None, List, [], length, Result, Ok, Err, if◌then◌else◌}
+use Rattle.std.specs.Prelude.{ℕ, nat_eq, None, List, [], length, Result, Ok, Err, if◌then◌else◌}
 use Rattle.ps_prim.specs.declared.prims.Primitive.{Primitive as Prim}
 use Rattle.qasm_parse.specs.declared.program.Statement.{Statement}
 use Rattle.qasm_expand.specs.declared.defs.Def.{Def}

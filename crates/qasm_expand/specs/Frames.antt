@@ -1,5 +1,5 @@
 -- Bodies done application by application: words for the contracts inside the crate.
-use Rattle.std.specs.Prelude.{◌≡◌, ◌<◌, ◌≤◌, ℕ, zero, suc, ◌+◌, Option, Some, None, List, [], ◌∷◌, ◌++◌, map, length, drop, reverse, get_or, slice_get, Result, Ok, Err, true, All}
+use Rattle.std.specs.Prelude.{◌≡◌, ◌<◌, ℕ, zero, suc, ◌+◌, Option, Some, None, List, [], ◌∷◌, ◌++◌, map, length, drop, reverse, get_or, slice_get, Result, Ok, Err, true}
 use Rattle.ps_prim.specs.declared.prims.Primitive.{Primitive as Prim}
 use Rattle.ps_prim.specs.declared.prims.Primitive.TheVariants.{U as UPrim}
 use Rattle.std.specs.declared.vec.Vec.{Vec}
@@ -13,7 +13,7 @@ use Rattle.qasm_expand.specs.declared.defs.Inner.{Inner}
 use Rattle.qasm_expand.specs.declared.defs.Def.{Def}
 use Rattle.qasm_expand.specs.declared.broken.Stop.{Stop}
 use Rattle.qasm_expand.specs.declared.broken.Broken.{Broken}
-use Rattle.qasm_expand.specs.declared.broken.Broken.TheVariants.{Own, Inside}
+use Rattle.qasm_expand.specs.declared.broken.Broken.TheVariants.{Inside}
 use Rattle.qasm_expand.specs.declared.frame.Frame.{Frame}
 use Rattle.qasm_expand.specs.declared.frame.Outcome.{Outcome}
 use Rattle.qasm_expand.specs.declared.frame.Outcome.TheVariants.{Nothing, Prim as APrim, Body as ABody}

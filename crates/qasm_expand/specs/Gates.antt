@@ -1,5 +1,5 @@
 -- Defining a gate: its body with every name resolved, or the first fault.
-use Rattle.std.specs.Prelude.{ℕ, suc, ◌+◌, Bool, true, false, ◌||◌, not, nat_eq, Option, Some, None, List, [], ◌∷◌, ◌++◌, length, map, bytes_eq, slice_get, get_or, option_map, Result, Ok, Err, if◌then◌else◌}
+use Rattle.std.specs.Prelude.{ℕ, suc, Bool, ◌||◌, not, nat_eq, Option, Some, None, List, [], ◌∷◌, ◌++◌, length, map, bytes_eq, get_or, option_map, Result, Ok, Err, if◌then◌else◌}
 use Rattle.qasm_angle.specs.declared.types.Op.{Op}
 use Rattle.qasm_angle.specs.declared.types.Op.TheVariants.{Id}
 use Rattle.qasm_parse.specs.declared.program.Span.{Span}

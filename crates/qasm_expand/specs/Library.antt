@@ -15,7 +15,7 @@ use Rattle.qasm_expand.specs.declared.state.Shelf.{Shelf}
 use Rattle.qasm_expand.specs.declared.state.State.{State}
 use Rattle.qasm_expand.specs.declared.fault.FaultName.TheVariants.{Redeclared}
 use Rattle.qasm_expand.specs.declared.fault.ReadFault.{ReadFault}
-use Rattle.qasm_expand.specs.Tables.{Register, Bound, meaning, rebound}
+use Rattle.qasm_expand.specs.Tables.{Bound, meaning, rebound}
 use Rattle.qasm_expand.specs.Checks.{spelled, and_then, refuse, of_tokens, of_grammar}
 use Rattle.qasm_expand.specs.Gates.{def_of}
 

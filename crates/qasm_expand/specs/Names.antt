@@ -1,11 +1,8 @@
 -- Lists of names as they are kept, what a step over a body does, and what a call answered.
 use Rattle.std.specs.Prelude.{◌≡◌, ℕ, Option, Some, None, List, ◌∷◌, ◌++◌, Result, Ok, Err}
-use Rattle.std.specs.declared.vec.Vec.{Vec}
-use Rattle.std.specs.declared.alloc.Global.{Global}
 use Rattle.qasm_parse.specs.declared.program.Inner.{Inner as Stated}
 use Rattle.qasm_expand.specs.declared.defs.Inner.{Inner}
 use Rattle.qasm_expand.specs.declared.defs.Def.{Def}
-use Rattle.qasm_expand.specs.declared.fault.FaultName.{FaultName}
 use Rattle.qasm_expand.specs.declared.fault.ReadFault.{ReadFault}
 use Rattle.qasm_expand.specs.declared.fault.ReadFault.TheVariants.{Fault, Memory}
 use Rattle.qasm_expand.specs.Tables.{Bound, meaning}

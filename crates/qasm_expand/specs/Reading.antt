@@ -1,5 +1,5 @@
 -- What was answered of a text and of a block, want of memory aside.
-use Rattle.std.specs.Prelude.{ℕ, List, Result, Ok, Err}
+use Rattle.std.specs.Prelude.{List, Result, Ok, Err}
 use Rattle.ps_prim.specs.declared.prims.Primitive.{Primitive as Prim}
 use Rattle.qasm_expand.specs.declared.fault.ReadFault.{ReadFault}
 use Rattle.qasm_expand.specs.declared.fault.ReadFault.TheVariants.{Fault, Memory}

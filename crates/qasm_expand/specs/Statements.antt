@@ -1,5 +1,5 @@
 -- Statements, one after the other.
-use Rattle.std.specs.Prelude.{◌≡◌, ℕ, ◌+◌, Bool, true, false, ◌||◌, ◌&&◌, not, nat_eq, nat_lt, Option, Some, None, is_some, List, [], ◌∷◌, ◌++◌, length, Result, Ok, Err, if◌then◌else◌}
+use Rattle.std.specs.Prelude.{ℕ, ◌+◌, Bool, true, false, ◌||◌, ◌&&◌, nat_eq, nat_lt, is_some, List, [], ◌∷◌, ◌++◌, length, Result, Ok, Err, if◌then◌else◌}
 use Rattle.ps_prim.specs.declared.prims.Primitive.{Primitive as Prim}
 use Rattle.qasm_parse.specs.declared.program.Span.{Span}
 use Rattle.qasm_parse.specs.declared.program.Arg.{Arg}
@@ -11,7 +11,7 @@ use Rattle.qasm_expand.specs.declared.state.State.{State}
 use Rattle.qasm_expand.specs.declared.fault.FaultName.TheVariants.{Redeclared, Range, TooMany}
 use Rattle.qasm_expand.specs.declared.fault.ReadFault.{ReadFault}
 use Rattle.qasm_expand.specs.Tables.{Register, register_of, qubit_count}
-use Rattle.qasm_expand.specs.Checks.{spelled, number_at, and_then, refuse}
+use Rattle.qasm_expand.specs.Checks.{spelled, number_at, refuse}
 use Rattle.qasm_expand.specs.Library.{Includes, defining}
 use Rattle.qasm_expand.specs.declared.target.Target.{Target}
 use Rattle.qasm_expand.specs.Targets.{targets_of, Applies}

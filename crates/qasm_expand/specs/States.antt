@@ -6,7 +6,6 @@ use Rattle.ps_prim.specs.Maps.{AllWithin}
 use Rattle.ps_prim.specs.Items.{AllWithin-prop}
 use Rattle.qasm_expand.specs.declared.defs.Def.{Def}
 use Rattle.qasm_expand.specs.declared.state.State.{State}
-use Rattle.qasm_expand.specs.declared.fault.FaultName.{FaultName}
 use Rattle.qasm_expand.specs.declared.fault.ReadFault.{ReadFault}
 use Rattle.qasm_expand.specs.declared.fault.ReadFault.TheVariants.{Fault, Memory}
 use Rattle.qasm_expand.specs.Tables.{Register, Bound, qubit_count, defs_sound, bound_sound, registers_sound}

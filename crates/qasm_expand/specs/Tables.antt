@@ -1,5 +1,5 @@
 -- Registers, gates and bound names.
-use Rattle.std.specs.Prelude.{ℕ, ◌+◌, ◌-◌, Bool, true, false, ◌&&◌, not, nat_eq, nat_le, nat_lt, min, Option, Some, None, List, [], ◌∷◌, ◌++◌, length, slice_get, bytes_eq, if◌then◌else◌}
+use Rattle.std.specs.Prelude.{ℕ, ◌+◌, Bool, true, false, ◌&&◌, not, nat_eq, nat_le, nat_lt, min, Option, Some, None, List, [], ◌∷◌, ◌++◌, length, slice_get, bytes_eq, if◌then◌else◌}
 use Rattle.qasm_angle.specs.declared.types.Op.{Op}
 use Rattle.qasm_angle.specs.declared.types.Op.TheVariants.{Id}
 use Rattle.qasm_expand.specs.declared.defs.Called.{Called}

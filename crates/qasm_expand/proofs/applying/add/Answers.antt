@@ -1,4 +1,4 @@
-use Rattle.std.proofs.Common.{◌≡◌, ◌∙◌, sym, subst}
+use Rattle.std.proofs.Common.{◌∙◌, sym, subst}
 use Rattle.ps_prim.specs.Maps.{AllWithin}
 use Rattle.qasm_expand.proofs.Placing.{items_none, items_next, placed_all}
 use Rattle.qasm_expand.proofs.applying.add.Goals as goal

@@ -1,4 +1,4 @@
-use Rattle.std.proofs.Common.{◌≡◌, length, subst, sym}
+use Rattle.std.proofs.Common.{length, subst, sym}
 use Rattle.ps_prim.specs.Maps.{IsWithin}
 use Rattle.qasm_expand.proofs.Placing.{within_at}
 use Rattle.qasm_expand.proofs.applying.all_placed.Goals as goal

@@ -1,4 +1,4 @@
-use Rattle.std.proofs.Common.{◌≡◌, ◌∙◌, sym, subst}
+use Rattle.std.proofs.Common.{sym}
 use Rattle.std.proofs.lemmas.Result.{err_from_is_err_and}
 use Rattle.qasm_expand.specs.States.{in_block}
 use Rattle.qasm_expand.proofs.Applied.{became_missed, became_broken, known_gate, known_arity, known_size, known_prims, known_targets, known_different, became_applied, still_sound}

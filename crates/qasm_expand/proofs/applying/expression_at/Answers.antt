@@ -1,4 +1,4 @@
-use Rattle.std.proofs.Common.{◌≡◌, ◌∙◌, ap}
+use Rattle.std.proofs.Common.{◌∙◌, ap}
 use Rattle.qasm_parse.specs.declared.program.Formula.{Formula}
 use Rattle.qasm_expand.proofs.Placing.{expression_read, expression_past}
 use Rattle.qasm_expand.proofs.applying.expression_at.Goals as goal

@@ -1,8 +1,7 @@
-use Rattle.std.proofs.Common.{◌≡◌, [], List, Result, Ok, Err, ap, sym, subst}
+use Rattle.std.proofs.Common.{Ok, Err, ap, sym, subst}
 use Rattle.ps_prim.specs.declared.prims.Primitive.{Primitive as Prim}
-use Rattle.qasm_expand.specs.declared.state.State.{State}
 use Rattle.qasm_expand.specs.Library.{BlockIs}
-use Rattle.qasm_expand.specs.Circuits.{behind_text, ReadsBlock}
+use Rattle.qasm_expand.specs.Circuits.{ReadsBlock}
 use Rattle.qasm_expand.specs.Reading.{table_in}
 use Rattle.qasm_expand.specs.Blocks.{known_with}
 use Rattle.qasm_expand.proofs.OneText.{one_block}

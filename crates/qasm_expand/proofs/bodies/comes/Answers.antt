@@ -1,4 +1,4 @@
-use Rattle.std.proofs.Common.{◌≡◌, ◌<◌, ◌∙◌, ap, refl, sym, arith, length, subst}
+use Rattle.std.proofs.Common.{◌<◌, ◌∙◌, sym, length, subst}
 use Rattle.ps_prim.specs.declared.prims.Primitive.TheVariants.{Cx as CxPrim}
 use Rattle.qasm_expand.specs.declared.defs.Called.TheVariants.{Def as ADef}
 use Rattle.qasm_expand.specs.Bodies.{Tells, Comes, call}

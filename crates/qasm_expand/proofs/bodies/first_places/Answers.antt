@@ -1,4 +1,4 @@
-use Rattle.std.proofs.Common.{◌≡◌, ◌++◌, ◌∷◌, [], ◌∙◌, ap, sym, subst, zero-add, List, ℕ, ◌+◌}
+use Rattle.std.proofs.Common.{◌++◌, ◌∷◌, [], ◌∙◌, ap, sym, zero-add}
 use Rattle.std.specs.List.{range_with_len}
 use Rattle.qasm_expand.proofs.Prims.{range_more}
 use Rattle.qasm_expand.proofs.bodies.first_places.Goals as goal

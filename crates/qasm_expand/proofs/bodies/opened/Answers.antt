@@ -1,4 +1,4 @@
-use Rattle.std.proofs.Common.{◌≡◌, ◌<◌, length, sym, ◌∙◌, ap, subst, refl, map, get_or}
+use Rattle.std.proofs.Common.{refl}
 use Rattle.qasm_expand.proofs.Machine.{open_faulty, open_frame}
 use Rattle.qasm_expand.proofs.Steps.{places_at}
 use Rattle.qasm_expand.proofs.bodies.opened.Goals as goal

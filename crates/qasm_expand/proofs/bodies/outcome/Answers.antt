@@ -1,4 +1,4 @@
-use Rattle.std.proofs.Common.{◌≡◌, ◌<◌, ◌∙◌, ap, arith, length, sym}
+use Rattle.std.proofs.Common.{arith}
 use Rattle.qasm_expand.proofs.Steps.{gate_below, none_made, some_made, universal_made, universal_off, controlled_made}
 use Rattle.qasm_expand.proofs.bodies.outcome.Goals as goal
 

@@ -1,8 +1,8 @@
-use Rattle.std.proofs.Common.{◌≡◌, ◌<◌, ◌≤◌, arith, length, refl, rules, []}
+use Rattle.std.proofs.Common.{◌≡◌, ◌<◌, ◌≤◌, arith, length, rules, []}
 use Rattle.std.proofs.Math.ListN.{drop_of_length-le}
 use Rattle.qasm_expand.specs.Bodies.{IsValue}
 use Rattle.qasm_expand.specs.Targets.{exprs_of}
-use Rattle.qasm_expand.proofs.Expressions.{onward_start, onward_next, onward_fault, onward_end, own_at, exprs_length}
+use Rattle.qasm_expand.proofs.Expressions.{onward_next, onward_fault, onward_end, own_at, exprs_length}
 use Rattle.qasm_expand.proofs.bodies.own_values.Goals as goal
 
 pub returns-in-Err : goal.returns-in-Err

@@ -1,4 +1,4 @@
-use Rattle.std.proofs.Common.{◌≡◌, ap, refl, [], Ok, Err}
+use Rattle.std.proofs.Common.{refl, Ok}
 use Rattle.qasm_expand.specs.Targets.{exprs_of}
 use Rattle.qasm_expand.proofs.Steps.{own_none, own_off, first_fits, own_made, own_stopped}
 use Rattle.qasm_expand.proofs.bodies.replaced.Goals as goal

@@ -1,4 +1,4 @@
-use Rattle.std.proofs.Common.{◌≡◌, ◌<◌, ◌≤◌, ◌+◌, ◌∙◌, ap, arith, length, sym, subst, refl, Ok, get_or}
+use Rattle.std.proofs.Common.{◌≤◌, ◌+◌, ap, arith, length, subst, refl, Ok, get_or}
 use Rattle.qasm_expand.specs.declared.frame.Frame.{Frame}
 use Rattle.qasm_expand.specs.Frames.{Does}
 use Rattle.qasm_expand.proofs.Steps.{body_done, step_fits, step_end, step_none, step_prim, step_body, step_off, less_one, less_body}

@@ -1,4 +1,4 @@
-use Rattle.std.proofs.Common.{◌≡◌, ◌∙◌, ap, arith, length, rules, vec_len, get_or, subst, sym}
+use Rattle.std.proofs.Common.{◌≡◌, ◌∙◌, ap, arith, length, rules, vec_len}
 use Rattle.qasm_expand.proofs.Steps.{place_below, place_read, three_are, turned_in}
 use Rattle.qasm_expand.proofs.bodies.universal.Goals as goal
 

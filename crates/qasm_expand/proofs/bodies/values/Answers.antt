@@ -1,7 +1,7 @@
-use Rattle.std.proofs.Common.{◌≡◌, arith, length, refl, rules}
+use Rattle.std.proofs.Common.{◌≡◌, length, rules}
 use Rattle.std.proofs.Math.ListN.{drop_of_length-le}
 use Rattle.qasm_expand.specs.Bodies.{IsValue}
-use Rattle.qasm_expand.proofs.Expressions.{onward_start, onward_next, onward_fault, onward_end, expr_at}
+use Rattle.qasm_expand.proofs.Expressions.{onward_next, onward_fault, onward_end, expr_at}
 use Rattle.qasm_expand.proofs.bodies.values.Goals as goal
 
 pub returns-in-Err : goal.returns-in-Err

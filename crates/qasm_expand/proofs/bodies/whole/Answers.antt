@@ -1,9 +1,9 @@
-use Rattle.std.proofs.Common.{◌≡◌, ◌<◌, ◌+◌, ◌∷◌, [], ◌++◌, ◌∙◌, ap, arith, length, sym, refl, subst, vec_len, rules, None}
+use Rattle.std.proofs.Common.{◌≡◌, ◌<◌, ◌+◌, ◌∙◌, ap, arith, length, sym, subst, vec_len, rules, None}
 use Rattle.std.specs.Prelude.{MatchOption}
 use Rattle.qasm_expand.specs.declared.frame.Frame.{Frame}
 use Rattle.qasm_expand.specs.Frames.{stack_work, frame_work}
 use Rattle.qasm_expand.proofs.Machine.{stack_work_more}
-use Rattle.qasm_expand.proofs.Steps.{whole_start, whole_next, whole_off, whole_end, no_frames}
+use Rattle.qasm_expand.proofs.Steps.{whole_next, whole_off, whole_end, no_frames}
 use Rattle.qasm_expand.proofs.bodies.whole.Goals as goal
 
 pub loop-frame-smaller : goal.loop-frame-smaller

@@ -1,4 +1,4 @@
-use Rattle.std.proofs.Common.{◌≡◌, List, [], ◌∷◌, reverse, Result}
+use Rattle.std.proofs.Common.{List, [], ◌∷◌, reverse, Result}
 use Rattle.std.specs.Prelude.{All}
 use Rattle.ps_prim.specs.declared.prims.Primitive.{Primitive as Prim}
 use Rattle.qasm_expand.specs.declared.broken.Broken.{Broken}

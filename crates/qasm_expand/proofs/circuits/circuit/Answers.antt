@@ -1,8 +1,6 @@
-use Rattle.std.proofs.Common.{◌≡◌, subst, sym, ◌∙◌, Ok, Err, List}
-use Rattle.qasm_parse.specs.declared.program.Statement.{Statement}
+use Rattle.std.proofs.Common.{subst, sym, Ok, Err}
 use Rattle.qasm_expand.specs.Library.{TextIs}
 use Rattle.qasm_expand.specs.Circuits.{ReadsText}
-use Rattle.qasm_expand.specs.Reading.{CircuitTold}
 use Rattle.qasm_expand.proofs.OneText.{one_text}
 use Rattle.qasm_expand.proofs.Texts.{circuit_misread, circuit_faulty, circuit_ended, circuit_only}
 use Rattle.qasm_expand.proofs.circuits.circuit.Goals as goal

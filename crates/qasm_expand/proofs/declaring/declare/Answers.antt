@@ -1,6 +1,5 @@
-use Rattle.std.proofs.Common.{arith, refl, ap, sym, ◌∙◌, ◌∷◌, [], ◌++◌, if◌then◌else◌, ℕ, ◌<◌, ◌+◌, ◌&&◌, nat_lt}
+use Rattle.std.proofs.Common.{arith, refl, ap, sym, ◌∙◌, ◌∷◌, [], ◌++◌, if◌then◌else◌, ◌+◌, ◌&&◌, nat_lt}
 use Rattle.qasm_expand.specs.declared.registers.Extent.{Extent}
-use Rattle.qasm_expand.specs.Tables.{Register, qubit_count}
 use Rattle.qasm_expand.proofs.Sounding.{sound_more}
 use Rattle.qasm_expand.proofs.declaring.declare.Goals as goal
 

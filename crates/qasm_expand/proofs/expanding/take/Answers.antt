@@ -1,5 +1,5 @@
 use Rattle.qasm_expand.specs.Targets.{targets_of}
-use Rattle.qasm_expand.proofs.Taking.{sound_within, sound_again, applied_again, passed, take_include, take_quantum, take_classical, take_gate, take_apply, take_barrier}
+use Rattle.qasm_expand.proofs.Taking.{sound_within, applied_again, passed, take_include, take_quantum, take_classical, take_gate, take_apply, take_barrier}
 use Rattle.qasm_expand.proofs.expanding.take.Goals as goal
 
 pub returns-in-Include-clause-taken : goal.returns-in-Include-clause-taken

@@ -1,4 +1,4 @@
-use Rattle.std.proofs.Common.{◌≡◌, ◌+◌, ◌++◌, ◌∷◌, [], ◌∙◌, ap, sym, drop, get_or, Ok, Err, None, true, false, append-nil, drop_of_length-le}
+use Rattle.std.proofs.Common.{◌≡◌, ◌+◌, ◌++◌, ◌∷◌, [], ◌∙◌, ap, sym, drop, get_or, Ok, Err, true, false, append-nil, drop_of_length-le}
 use Rattle.std.specs.Option.{is_none}
 use Rattle.qasm_expand.specs.declared.fault.FaultName.TheVariants.{Redeclared}
 use Rattle.qasm_expand.specs.Checks.{spelled, unless}

@@ -1,4 +1,4 @@
-use Rattle.std.proofs.Common.{◌≡◌, ◌≤◌, ◌++◌, [], drop, length}
+use Rattle.std.proofs.Common.{◌≡◌, ◌++◌, [], drop}
 use Rattle.qasm_expand.specs.Gates.{first_again, names}
 use Rattle.qasm_expand.proofs.formals.formal_names.Given as goal
 

@@ -1,4 +1,4 @@
-use Rattle.std.proofs.Common.{◌≡◌, ◌+◌, ◌∷◌, ◌∙◌, ap, sym, min, drop, arith, drop_of_length-le, List}
+use Rattle.std.proofs.Common.{◌+◌, ◌∷◌, ◌∙◌, ap, sym, min, drop, arith, drop_of_length-le, List}
 use Rattle.qasm_expand.specs.declared.defs.Inner.{Inner}
 use Rattle.qasm_expand.specs.Tables.{body_size}
 use Rattle.qasm_expand.proofs.Stepping.{dropped}

@@ -1,12 +1,8 @@
 use Rattle.std.proofs.Common.{◌≡◌, refl, ap, sym, ◌∙◌, subst, Ok, [], length, List}
 use Rattle.qasm_parse.specs.declared.program.Statement.{Statement}
-use Rattle.qasm_expand.specs.declared.state.State.{State}
-use Rattle.qasm_expand.specs.declared.state.Shelf.{Shelf}
-use Rattle.qasm_expand.specs.declared.fault.ReadFault.{ReadFault}
-use Rattle.qasm_expand.specs.Tables.{Bound, bound_sound}
+use Rattle.qasm_expand.specs.Tables.{Bound}
 use Rattle.qasm_expand.specs.Checks.{Known}
-use Rattle.qasm_expand.specs.Library.{library_text, TextIs, Gates, with_library, with_all, all_defined}
-use Rattle.qasm_expand.specs.States.{Became}
+use Rattle.qasm_expand.specs.Library.{library_text, TextIs, all_defined}
 use Rattle.qasm_expand.proofs.Libraries.{none_of_shelf, included_again, included_fault, defining_faulty, all_included, library_sound, none_sound, text_of, fault_by, shelved}
 use Rattle.qasm_expand.proofs.including.include.Goals as goal
 

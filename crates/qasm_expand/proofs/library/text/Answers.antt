@@ -1,4 +1,4 @@
-use Rattle.std.proofs.Common.{refl, lit≤}
+use Rattle.std.proofs.Common.{refl}
 use Rattle.qasm_expand.specs.Library.{library_text}
 use Rattle.qasm_expand.proofs.library.text.Goals as goal
 

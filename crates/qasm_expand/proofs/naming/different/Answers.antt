@@ -1,7 +1,6 @@
 use Rattle.std.proofs.Common.{◌≡◌, ◌+◌, ◌<◌, ◌∷◌, length, refl, subst, sym, ap, ◌∙◌, [], List, ℕ, drop, get_or, Ok, Err, None, true, false, arith, nat_eq, drop_of_length-le}
 use Rattle.std.specs.List.{list_any}
 use Rattle.qasm_expand.specs.declared.fault.FaultName.TheVariants.{RepeatedQubit}
-use Rattle.qasm_expand.specs.declared.fault.ReadFault.{ReadFault}
 use Rattle.qasm_expand.specs.Checks.{unless}
 use Rattle.qasm_expand.specs.Gates.{first_repeated, arg_names}
 use Rattle.qasm_expand.proofs.Stepping.{Seen, seen_none, seen_more, repeated_found, repeated_next, repeated_end, known_fault, dropped, not_false, not_true}

@@ -1,4 +1,4 @@
-use Rattle.std.proofs.Common.{◌≡◌, ◌≤◌, ℕ, List, [], drop, length}
+use Rattle.std.proofs.Common.{◌≡◌, ℕ, List, [], drop}
 use Rattle.qasm_expand.specs.Gates.{first_repeated, arg_names}
 use Rattle.qasm_expand.proofs.Stepping.{Seen}
 use Rattle.qasm_expand.proofs.naming.different.Given as goal

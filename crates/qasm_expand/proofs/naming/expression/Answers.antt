@@ -1,4 +1,4 @@
-use Rattle.std.proofs.Common.{◌∙◌, ap, sym, subst, subst₂, List, All, length, ◌≡◌}
+use Rattle.std.proofs.Common.{◌∙◌, ap, sym, subst, subst₂, All, length}
 use Rattle.qasm_angle.specs.Trees.{IsExpression}
 use Rattle.qasm_parse.specs.Places.{IdBelow}
 use Rattle.qasm_expand.proofs.Renumbering.{renumbered_whole}

@@ -1,6 +1,4 @@
-use Rattle.std.proofs.Common.{sym}
 use Rattle.qasm_expand.specs.Checks.{of_tokens, of_grammar}
-use Rattle.qasm_expand.specs.Library.{TextIs, BlockIs}
 use Rattle.qasm_expand.proofs.Plain.{block_plain}
 use Rattle.qasm_expand.proofs.Texts.{block_ok, block_err, block_lex, known_by}
 use Rattle.qasm_expand.proofs.programs.block_program.Goals as goal

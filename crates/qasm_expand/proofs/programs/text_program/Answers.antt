@@ -1,6 +1,4 @@
-use Rattle.std.proofs.Common.{sym}
 use Rattle.qasm_expand.specs.Checks.{of_tokens, of_grammar}
-use Rattle.qasm_expand.specs.Library.{TextIs, BlockIs}
 use Rattle.qasm_expand.proofs.Texts.{text_ok, text_err, text_lex, known_by}
 use Rattle.qasm_expand.proofs.programs.text_program.Goals as goal
 

@@ -1,4 +1,4 @@
-use Rattle.std.proofs.Common.{◌≡◌, ◌∙◌, sym, ap, subst, length}
+use Rattle.std.proofs.Common.{◌∙◌, sym, ap, subst, length}
 use Rattle.std.specs.Prelude.{All}
 use Rattle.qasm_expand.specs.Tables.{qubit_count}
 use Rattle.qasm_expand.specs.Aims.{Fits}

@@ -1,4 +1,4 @@
-use Rattle.std.proofs.Common.{◌≡◌, ◌∙◌, ◌<◌, sym, ap, subst, length}
+use Rattle.std.proofs.Common.{◌∙◌, ◌<◌, sym, subst}
 use Rattle.std.proofs.lemmas.List.{length-map}
 use Rattle.qasm_parse.specs.declared.program.Arg.{Arg}
 use Rattle.qasm_expand.specs.Gates.{arg_names}

@@ -1,4 +1,3 @@
-use Rattle.std.proofs.Common.{◌≡◌, ◌∙◌, sym, ap}
 use Rattle.qasm_expand.specs.Gates.{arg_names}
 use Rattle.qasm_expand.proofs.Aiming.{repeat_found, repeat_next, repeat_end}
 use Rattle.qasm_expand.proofs.targets.first_repeated.Goals as goal

@@ -1,4 +1,4 @@
-use Rattle.std.proofs.Common.{◌≡◌, ◌∙◌, sym, ap, get_or, drop, None}
+use Rattle.std.proofs.Common.{◌∙◌, sym, drop, None}
 use Rattle.qasm_expand.specs.declared.target.Target.TheVariants.{Single}
 use Rattle.qasm_expand.specs.Gates.{arg_names}
 use Rattle.qasm_expand.proofs.Aiming.{uneven_here, uneven_behind, uneven_end}

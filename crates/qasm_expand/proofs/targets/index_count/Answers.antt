@@ -1,4 +1,4 @@
-use Rattle.std.proofs.Common.{◌≡◌, ◌∙◌, ◌+◌, sym, ap, drop}
+use Rattle.std.proofs.Common.{◌∙◌, ◌+◌, sym, drop}
 use Rattle.qasm_expand.specs.declared.target.Target.TheVariants.{Single}
 use Rattle.qasm_expand.proofs.Aiming.{indices_at, indices_whole, indices_single, indices_end}
 use Rattle.qasm_expand.proofs.targets.index_count.Goals as goal

@@ -1,6 +1,6 @@
-use Rattle.std.proofs.Common.{◌≡◌, ◌∙◌, sym, ap, refl, None}
+use Rattle.std.proofs.Common.{refl, None}
 use Rattle.qasm_expand.specs.declared.target.Target.TheVariants.{Single}
-use Rattle.qasm_expand.proofs.Aiming.{Passed, passed_none, repeated_here, passed_more, passed_all}
+use Rattle.qasm_expand.proofs.Aiming.{passed_none, repeated_here, passed_more, passed_all}
 use Rattle.qasm_expand.proofs.targets.repeated.Goals as goal
 
 pub loop-k-init : goal.loop-k-init

@@ -1,4 +1,4 @@
-use Rattle.std.proofs.Common.{◌≡◌, ◌∙◌, sym, ap, option_map, Err}
+use Rattle.std.proofs.Common.{◌∙◌, sym, ap, option_map, Err}
 use Rattle.qasm_expand.specs.Tables.{register_of}
 use Rattle.qasm_expand.specs.Maps.{extent_of}
 use Rattle.qasm_expand.specs.Checks.{spelled}

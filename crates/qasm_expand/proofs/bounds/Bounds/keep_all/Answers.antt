@@ -1,4 +1,4 @@
-use Rattle.std.proofs.Common.{◌∙◌, sym, drop, arith, length, ◌<◌, ◌≤◌, drop_of_length-le}
+use Rattle.std.proofs.Common.{drop, arith, length, ◌<◌, ◌≤◌, drop_of_length-le}
 use Rattle.qasm_expand.specs.Library.{with_all}
 use Rattle.qasm_expand.proofs.Keeping.{all_next, all_end}
 use Rattle.qasm_expand.proofs.bounds.Bounds.keep_all.Goals as goal

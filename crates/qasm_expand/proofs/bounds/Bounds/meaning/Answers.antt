@@ -1,4 +1,4 @@
-use Rattle.std.proofs.Common.{◌∙◌, sym, ap}
+use Rattle.std.proofs.Common.{◌∙◌, ap}
 use Rattle.qasm_expand.specs.Tables.{meaning}
 use Rattle.qasm_expand.proofs.Lookups.{meaning_of_entries}
 use Rattle.qasm_expand.proofs.bounds.Bounds.meaning.Goals as goal

@@ -1,4 +1,4 @@
-use Rattle.std.proofs.Common.{◌∙◌, sym, ap, List, ℕ, map}
+use Rattle.std.proofs.Common.{◌∙◌, ap, map}
 use Rattle.qasm_expand.specs.Tables.{rebound}
 use Rattle.qasm_expand.specs.Maps.{bound_of}
 use Rattle.qasm_expand.proofs.Lookups.{rebound_entries}

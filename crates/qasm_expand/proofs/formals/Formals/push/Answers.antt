@@ -1,4 +1,4 @@
-use Rattle.std.proofs.Common.{◌∙◌, ap, sym, ap₂, not, vec_items, map, Vec, Global, ◌++◌, ◌∷◌, []}
+use Rattle.std.proofs.Common.{◌∙◌, ap, ap₂, vec_items, map, ◌++◌, ◌∷◌, []}
 use Rattle.std.specs.Option.{is_none}
 use Rattle.qasm_expand.specs.Gates.{place_of}
 use Rattle.qasm_expand.proofs.Lookups.{new_of_keys, pushed_keys}

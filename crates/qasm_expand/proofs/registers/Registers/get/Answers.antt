@@ -1,4 +1,4 @@
-use Rattle.std.proofs.Common.{◌≡◌, ap, ◌∙◌, option_map}
+use Rattle.std.proofs.Common.{ap, ◌∙◌, option_map}
 use Rattle.qasm_expand.specs.Tables.{register_of}
 use Rattle.qasm_expand.specs.Maps.{extent_of}
 use Rattle.qasm_expand.proofs.Registering.{found}
