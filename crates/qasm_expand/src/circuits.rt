@@ -1,4 +1,4 @@
-//! Circuits of whole texts, and items of blocks.
+//! Circuits of whole texts.
 
 ghost use Rattle.std.specs.Prelude.{◌≡◌, ◌≤◌, length, Result, Ok};
 ghost use Rattle.qasm_expand.specs.declared.fault.ReadFault.{ReadFault};
