@@ -9,3 +9,4 @@ pub mod Holdings
 pub mod Ordered
 pub mod Settling
 pub mod Derived
+pub mod Tables

@@ -23,10 +23,20 @@ use Rattle.ps_reach.proofs.Denoting.{leaf_scaled, join_scaled, scaled_more, deno
 use Rattle.ps_normal.specs.declared.parts.Ended.{Ended}
 use Rattle.ps_normal.specs.declared.parts.Ended.TheVariants as ended
 use Rattle.ps_normal.specs.Ends.{IsEnded}
+use Rattle.ps_normal.specs.declared.parts.Part.{Part}
+use Rattle.ps_normal.specs.declared.parts.Part.TheVariants as part
 use Rattle.ps_normal.specs.Pieces.{Usable}
+use Rattle.ps_normal.specs.Keeping.{IsReducedPart, IsReducedLeaf}
 
 pub ended_at : (S : PathSum) (ss qs : List Step) (e : Ended) → qs ≡ ss → IsEnded S ss e → IsEnded S qs e
 ended_at S ss qs e v h = subst (λ q. IsEnded S q e) (sym v) h
+
+-- ---- with the steps that were taken
+pub reduced_part : (S T : PathSum) (ss : List Step) (e : Ended) → e ≡ ended.Normal T → IsEnded S ss e → IsReducedPart S ss (part.Sum T)
+reduced_part S T ss e is r = subst (IsEnded S ss) is r
+
+pub reduced_leaf : (n : ℕ) (g : Prim) (S : PathSum) (qs ss : List Step) (e : Ended) (p : Part) → qs ≡ ss → IsLeafOf n g S → IsEnded S ss e → ((S' : PathSum) → IsEnded S' qs e → IsReducedPart S' qs p) → IsReducedLeaf n g ss p
+reduced_leaf n g S qs ss e p v l r f = (S, (l, subst (λ q. IsReducedPart S q p) v (f S (ended_at S ss qs e v r))))
 
 -- ---- with the moves that were pushed
 pub leaf_kept : (n i : ℕ) (g : Prim) (S T : PathSum) (ss : List Step) (ms ms' : List Move) (first : Move) (e : Ended) → first ≡ Leaf i → IsLeafOf n g S → e ≡ ended.Normal T → IsEnded S ss e
@@ -60,6 +70,12 @@ join_passed from middle to S1 S2 S1' p ms o h s v =
 
 pub onto_fault : (S1 S2 S1' : PathSum) (p : Passed) (e : OntoFault) → e ≡ fault.Passed p S1' → IsOntoFault S1 S2 e → JoinPasses S1 S2 p × (S1' ≡ S1)
 onto_fault S1 S2 S1' p e is h = subst (IsOntoFault S1 S2) is h
+
+pub shared_onto : (from middle to : ℕ) (S1 a S2 S1' x y : PathSum) (p : Passed) (e : OntoFault) (ms : List Move) (o : Overrun) → e ≡ fault.Passed p S1' → IsOntoFault S1 a e → a ≡ S2 → x ≡ S1' → y ≡ S2 → o ≡ overrun p from middle to x (Some y)
+    → Joins from middle to S1 S2 ms (passed o ms)
+shared_onto from middle to S1 a S2 S1' x y p e ms o is h ea ex ey v =
+    let f = onto_fault S1 a S1' p e is h in
+    join_passed from middle to S1 S2 x p ms o (subst (λ z. JoinPasses S1 z p) ea f.0) (ex ∙ f.1) (v ∙ ap (λ z. overrun p from middle to x (Some z)) ey)
 
 -- ---- sums that can be used further
 pub usable_reduced : (n count : ℕ) (S T : PathSum) (ss : List Step) → Reduces S ss T → Usable n count S → Usable n count T

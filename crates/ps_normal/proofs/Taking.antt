@@ -11,17 +11,20 @@ use Rattle.ps_reach.specs.declared.evidence.Evidence.{Evidence}
 use Rattle.ps_reach.specs.Runs.{prims_of, run_of}
 use Rattle.ps_reach.specs.Parts.{overrun_of}
 use Rattle.ps_reach.specs.Fillings.{Outcome, kept, passed, Joins, Leaves, FillsFrom, leaf_over, join_over, next, Fills, first_over, first}
-use Rattle.ps_reach.proofs.Denoting.{within_first, within_second}
+use Rattle.ps_reach.proofs.Denoting.{within_first, within_second, scaled_more}
 use Rattle.ps_reach.proofs.Replaying.{length_both}
 use Rattle.ps_normal.specs.declared.parts.Part.{Part}
 use Rattle.ps_normal.specs.declared.parts.Part.TheVariants as part
+use Rattle.ps_normal.specs.declared.parts.LeafPart.{LeafPart}
+use Rattle.ps_normal.specs.declared.parts.LeafPart.TheVariants as leaf
 use Rattle.ps_normal.specs.declared.parts.Taken.{Taken}
 use Rattle.ps_normal.specs.declared.parts.Taken.TheVariants as taken
 use Rattle.ps_normal.specs.Pieces.{PartIs, UsablePart, IsProgress, IsTaken}
+use Rattle.ps_normal.specs.Keeping.{LeafIs}
 use Rattle.ps_normal.specs.Takings.{Takes, UsableHeld, UsableTaken}
 
 -- ---- one prim
-pub first_taken : (n i : ℕ) (A more : List Prim) (ms ms' : List Move) (g : Prim) (T : PathSum) (p : Part) (held : Option PathSum) → held ≡ None → p ≡ part.Sum T → PartIs (Leaves n i g ms) ms' p
+first_taken : (n i : ℕ) (A more : List Prim) (ms ms' : List Move) (g : Prim) (T : PathSum) (p : Part) (held : Option PathSum) → held ≡ None → p ≡ part.Sum T → PartIs (Leaves n i g ms) ms' p
     → IsProgress n A (g ∷ more) held i ms → (o : Outcome) → FillsFrom n (i + 1) T ms' more o → Fills n A o
 first_taken n i A more ms ms' g T p held h e l w o f =
     let q : (A ≡ g ∷ more) × ((i ≡ 0) × (ms ≡ [])) = subst (λ x. IsProgress n A (g ∷ more) x i ms) h w in
@@ -34,7 +37,7 @@ over_cases n i A more ms ms' g e None l w =
     subst (λ B. Fills n B (passed (overrun_of e) ms')) (sym w.0) (first_over (subst (λ x. Leaves n 0 g x (passed (overrun_of e) ms')) w.1.1 (subst (λ x. Leaves n x g ms (passed (overrun_of e) ms')) w.1.0 l)))
 over_cases n i A more ms ms' g e (Some S) l w = w _ (leaf_over l)
 
-pub over_taken : (n i : ℕ) (A more : List Prim) (ms ms' : List Move) (g : Prim) (e : Evidence) (p : Part) (held : Option PathSum) → p ≡ part.Over e → PartIs (Leaves n i g ms) ms' p → IsProgress n A (g ∷ more) held i ms → Fills n A (passed (overrun_of e) ms')
+over_taken : (n i : ℕ) (A more : List Prim) (ms ms' : List Move) (g : Prim) (e : Evidence) (p : Part) (held : Option PathSum) → p ≡ part.Over e → PartIs (Leaves n i g ms) ms' p → IsProgress n A (g ∷ more) held i ms → Fills n A (passed (overrun_of e) ms')
 over_taken n i A more ms ms' g e p held is l w = over_cases n i A more ms ms' g e held (subst (PartIs (Leaves n i g ms) ms') is l) w
 
 joined_cases : (n i : ℕ) (A more : List Prim) (ms ms' ms2 : List Move) (g : Prim) (S T : PathSum) (q : Part) → Leaves n i g ms (kept T ms') → PartIs (Joins 0 i (i + 1) S T ms') ms2 q → IsProgress n A (g ∷ more) (Some S) i ms → IsTaken n A more (i + 1) ms2 q
@@ -42,10 +45,22 @@ joined_cases n i A more ms ms' ms2 g S T (part.Sum U) l j w = λ o f. w o (next 
 joined_cases n i A more ms ms' ms2 g S T (part.Over e) l j w = w _ (join_over l j)
 joined_cases n i A more ms ms' ms2 g S T part.Stopped l j w = tt
 
-pub joined_taken : (n i : ℕ) (A more : List Prim) (ms ms' ms2 : List Move) (g : Prim) (S T : PathSum) (p q : Part) (held : Option PathSum) → held ≡ Some S → p ≡ part.Sum T → PartIs (Leaves n i g ms) ms' p → PartIs (Joins 0 i (i + 1) S T ms') ms2 q
-    → IsProgress n A (g ∷ more) held i ms → IsTaken n A more (i + 1) ms2 q
-joined_taken n i A more ms ms' ms2 g S T p q held h e l j w =
-    joined_cases n i A more ms ms' ms2 g S T q (subst (PartIs (Leaves n i g ms) ms') e l) j (subst (λ x. IsProgress n A (g ∷ more) x i ms) h w)
+pub first_part : (n i : ℕ) (A more : List Prim) (ms ms' : List Move) (g : Prim) (p : Part) (held : Option PathSum) → held ≡ None → PartIs (Leaves n i g ms) ms' p → IsProgress n A (g ∷ more) held i ms → IsTaken n A more (i + 1) ms' p
+first_part n i A more ms ms' g (part.Sum T) held h l w = λ o f. first_taken n i A more ms ms' g T (part.Sum T) held h refl l w o f
+first_part n i A more ms ms' g (part.Over e) held h l w = over_taken n i A more ms ms' g e (part.Over e) held refl l w
+first_part n i A more ms ms' g part.Stopped held h l w = tt
+
+pub next_taken : (n i : ℕ) (A more : List Prim) (ms ms' ms2 : List Move) (g : Prim) (S : PathSum) (s : Arc PathSum Global) (p : LeafPart) (q : Part) → p ≡ leaf.Sum s → LeafIs (Leaves n i g ms) ms' p → PartIs (Joins 0 i (i + 1) S s.value ms') ms2 q → IsProgress n A (g ∷ more) (Some S) i ms
+    → IsTaken n A more (i + 1) ms2 q
+next_taken n i A more ms ms' ms2 g S s p q e l j w = joined_cases n i A more ms ms' ms2 g S s.value q (subst (LeafIs (Leaves n i g ms) ms') e l) j w
+
+pub next_over : (n i : ℕ) (A more : List Prim) (ms ms' : List Move) (g : Prim) (S : PathSum) (e : Evidence) (p : LeafPart) → p ≡ leaf.Over e → LeafIs (Leaves n i g ms) ms' p → IsProgress n A (g ∷ more) (Some S) i ms → Fills n A (passed (overrun_of e) ms')
+next_over n i A more ms ms' g S e p is l w = w _ (leaf_over (subst (LeafIs (Leaves n i g ms) ms') is l))
+
+pub usable_more : (n a b : ℕ) (p : Part) → a ≤ b → UsablePart n a p → UsablePart n b p
+usable_more n a b (part.Sum T) h u = record { n_is = u.n_is; wide = u.wide; scale = scaled_more a b T h u.scale }
+usable_more n a b (part.Over e) h u = tt
+usable_more n a b part.Stopped h u = tt
 
 -- ---- prims of a list
 pub within_at : (n : ℕ) (A : List Prim) (i : ℕ) (g : Prim) → AllWithin n A → i < length A → g ≡ get_or A i g → IsWithin n g

@@ -1,5 +1,6 @@
 pub mod Ends
 pub mod Pieces
+pub mod Keeping
 pub mod Takings
 pub mod Fillings
 pub mod Comparing

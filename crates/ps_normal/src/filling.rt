@@ -12,6 +12,7 @@ ghost use Rattle.ps_normal.specs.Fillings.{CanJoin, CanRun, CanFill, IsRecordOf,
 
 use super::children::fill_children;
 use super::filled::Filled;
+use super::kept::Workspace;
 use super::parts::Taken;
 use super::takings::take_items;
 use ps_io::Stop;
@@ -89,8 +90,11 @@ pub fn fill_items<S: Stop>(
     ensures stopped { IfOk result (λ f. FilledRose (S.yeses stop.old) (S.yeses stop.new) f) }
 {
     let mut moves = Vec::new(alloc);
-    let mut steps = Vec::new(alloc);
-    let taken = take_items(alloc, n, items, &mut moves, &mut steps, stop)?;
+    let mut work = Workspace {
+        steps: Vec::new(alloc),
+        leaves: Vec::new(alloc),
+    };
+    let taken = take_items(alloc, n, items, &mut moves, &mut work, stop)?;
     taken_record(alloc, n, Arc::try_clone(items)?, moves, taken)
 }
 
@@ -99,8 +103,8 @@ pub fn fill_items<S: Stop>(
 ///
 /// The first prim's leaf is reduced, and each next prim's leaf is reduced, put behind, and the result
 /// reduced; no prim gives the identity. Of two segments the sums are put together and reduced. It
-/// asks whether to stop before each prim and each step; `Stopped` comes only where the answer was
-/// yes. `AllocError` is want of memory.
+/// asks whether to stop at each prim and before each step; `Stopped` comes only where the answer was
+/// yes. The reduced leaves of some prims are kept meanwhile. `AllocError` is want of memory.
 ///
 /// Condition: 1 to 64 qubits, at most 65,536 items, all on these qubits; and two records are of as
 /// many qubits and have sums.

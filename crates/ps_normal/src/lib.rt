@@ -7,6 +7,8 @@ pub mod derivations;
 mod evidences;
 pub mod filled;
 pub mod filling;
+mod kept;
+mod leaves;
 mod parts;
 mod prims;
 mod reduce;

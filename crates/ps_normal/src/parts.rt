@@ -1,5 +1,6 @@
 use ps_reach::Evidence;
 use ps_sum::{Passed, PathSum};
+use std::sync::Arc;
 
 /// Where reducing a sum ended.
 #[derive(Drop)]
@@ -17,6 +18,17 @@ pub enum Ended {
 pub enum Part {
     /// A normal sum.
     Sum(PathSum),
+    /// A limit that is passed.
+    Over(Evidence),
+    /// It was asked to stop.
+    Stopped,
+}
+
+/// What the leaf of a prim comes to.
+#[derive(Drop)]
+pub enum LeafPart {
+    /// Its normal sum.
+    Sum(Arc<PathSum>),
     /// A limit that is passed.
     Over(Evidence),
     /// It was asked to stop.

@@ -9,8 +9,9 @@ ghost use Rattle.ps_join.specs.Joining.{IsLeafOf, IsJoinOf, JoinFits};
 ghost use Rattle.ps_reach.specs.Fillings.{Leaves, Joins};
 ghost use Rattle.ps_normal.specs.Ends.{IsEnded, HasRisen};
 ghost use Rattle.ps_normal.specs.Pieces.{PartIs, PartRose, Usable, UsablePart, Joinable};
+ghost use Rattle.ps_normal.specs.Keeping.{IsReducedPart, IsReducedLeaf};
 
-use super::evidences::{evidence, push_moves};
+use super::evidences::{evidence, push_moves, shared_evidence};
 use super::parts::{Ended, Part, Places};
 use super::reduce::reduce;
 use ps_io::Stop;
@@ -19,6 +20,7 @@ use ps_prim::Prim;
 use ps_rules::{Move, Step};
 use ps_sum::PathSum;
 use std::alloc::{AllocError, Global};
+use std::sync::Arc;
 
 /// What a sum that was reduced comes to, with the move that made it.
 pub fn ended_part(
@@ -31,6 +33,7 @@ pub fn ended_part(
 ) -> Result<Part, AllocError>
     ensures leaf { IfOk result (λ p. (n : ℕ) (g : Prim) (S : PathSum) → first ≡ Leaf places.from → places.middle ≡ places.from → places.to ≡ places.from + 1 → IsLeafOf n g S → IsEnded S steps.now ended → PartIs (Leaves n places.from g moves.old.items) moves.new.items p) }
     ensures join { IfOk result (λ p. (S1 S2 S : PathSum) → first ≡ Join → JoinFits S1 S2 → IsJoinOf S1 S2 S → IsEnded S steps.now ended → PartIs (Joins places.from places.middle places.to S1 S2 moves.old.items) moves.new.items p) }
+    ensures reduced { IfOk result (λ p. (S : PathSum) → IsEnded S steps.now ended → IsReducedPart S steps.now p) }
     ensures usable { IfOk result (λ p. (n count : ℕ) (S : PathSum) → Usable n count S → IsEnded S steps.now ended → UsablePart n count p) }
     ensures stopped { IfOk result (λ p. (old new : ℕ) → HasRisen old new ended → PartRose old new p) }
 {
@@ -61,6 +64,7 @@ pub fn leaf_part<S: Stop>(
     requires within { IsWithin n prim.now }
     requires few { place < 268435456 }
     ensures part { IfOk result (λ p. PartIs (Leaves n place prim.now moves.old.items) moves.new.items p) }
+    ensures reduced { IfOk result (λ p. IsReducedLeaf n prim.now steps.new.items p) }
     ensures usable { IfOk result (λ p. UsablePart n 1 p) }
     ensures stopped { IfOk result (λ p. PartRose (S.yeses stop.old) (S.yeses stop.new) p) }
     ensures never_falls { S.yeses stop.old ≤ S.yeses stop.new }
@@ -75,30 +79,31 @@ pub fn leaf_part<S: Stop>(
     ended_part(alloc, places, Move::Leaf(place), ended, moves, steps)
 }
 
-/// The second sum behind the first, which stand for so many prims together, reduced.
+/// The second sum behind the first, which is given away, reduced.
 pub fn join_part<S: Stop>(
     alloc: Global,
     places: Places,
     first: PathSum,
-    second: PathSum,
+    second: &Arc<PathSum>,
     moves: &mut Vec<Move>,
     steps: &mut Vec<Step>,
     stop: &mut S,
 ) -> Result<Part, AllocError>
-    requires ready { Joinable first second }
-    ensures part { IfOk result (λ p. PartIs (Joins places.from places.middle places.to first second moves.old.items) moves.new.items p) }
-    ensures usable { IfOk result (λ p. (n a b : ℕ) → Usable n a first → Usable n b second → UsablePart n (a + b) p) }
+    requires ready { Joinable first second.now.value }
+    ensures part { IfOk result (λ p. PartIs (Joins places.from places.middle places.to first second.now.value moves.old.items) moves.new.items p) }
+    ensures usable { IfOk result (λ p. (n a b : ℕ) → Usable n a first → Usable n b second.now.value → UsablePart n (a + b) p) }
     ensures stopped { IfOk result (λ p. PartRose (S.yeses stop.old) (S.yeses stop.new) p) }
     ensures never_falls { S.yeses stop.old ≤ S.yeses stop.new }
 {
-    match join_onto(alloc, first, &second) {
+    match join_onto(alloc, first, second) {
         Ok(sum) => {
             let ended = reduce(alloc, sum, steps, stop)?;
             ended_part(alloc, places, Move::Join, ended, moves, steps)
         }
         Err(OntoFault::Passed { passed, first }) => {
-            let evidence = evidence(alloc, passed, places, first, Some(second))?;
-            Ok(Part::Over(evidence))
+            let first = Arc::new(alloc, first)?;
+            let second = Arc::try_clone(second)?;
+            Ok(Part::Over(shared_evidence(passed, places, first, Some(second))))
         }
         Err(OntoFault::Memory) => Err(AllocError),
     }

@@ -1,20 +1,59 @@
 //! The prims of a segment, one behind the other.
 
-ghost use Rattle.std.specs.Prelude.{◌≡◌, ℕ, ◌<◌, ◌≤◌, ◌+◌, ◌++◌, ◌∷◌, [], List, length, IfOk};
+ghost use Rattle.std.specs.Prelude.{◌≡◌, ℕ, ◌<◌, ◌≤◌, ◌+◌, ◌++◌, ◌∷◌, [], List, length, Some, IfOk, OnOk};
 ghost use Rattle.ps_prim.specs.declared.prims.Primitive.{Primitive as Prim};
 ghost use Rattle.ps_prim.specs.Maps.{IsWithin, AllWithin};
 ghost use Rattle.ps_reach.specs.Runs.{run_of};
 ghost use Rattle.ps_normal.specs.Pieces.{PartRose, Usable, UsablePart, IsProgress, IsTaken};
+ghost use Rattle.ps_normal.specs.Keeping.{IsTable};
 ghost use Rattle.ps_normal.specs.Takings.{Takes, UsableHeld, UsableTaken, TakenRose};
 
-use super::parts::{Part, Places, Taken};
+use super::kept::Workspace;
+use super::leaves::shared_leaf;
+use super::parts::{LeafPart, Part, Places, Taken};
 use super::prims::{join_part, leaf_part};
 use ps_io::Stop;
 use ps_prim::Prim;
 use ps_reach::Items;
-use ps_rules::{Move, Step};
+use ps_rules::Move;
 use ps_sum::PathSum;
 use std::alloc::{AllocError, Global};
+
+// The prim at a place behind the sum of those before it.
+fn take_next<S: Stop>(
+    alloc: Global,
+    n: u32,
+    prim: &Prim,
+    sum: PathSum,
+    place: u32,
+    moves: &mut Vec<Move>,
+    work: &mut Workspace,
+    stop: &mut S,
+) -> Result<Part, AllocError>
+    requires width { (1 ≤ n) × (n ≤ 64) }
+    requires within { IsWithin n prim.now }
+    requires few { place < 268435456 }
+    requires usable { Usable n place sum }
+    requires table { IsTable n work.old.leaves.items }
+    ensures taken { IfOk result (λ p. (A more : List Prim) → IsProgress n A (prim.now ∷ more) (Some sum) place moves.old.items → IsTaken n A more (place + 1) moves.new.items p) }
+    ensures usable { IfOk result (λ p. UsablePart n (place + 1) p) }
+    ensures table { OnOk result (IsTable n work.new.leaves.items) }
+    ensures stopped { IfOk result (λ p. PartRose (S.yeses stop.old) (S.yeses stop.new) p) }
+    ensures never_falls { S.yeses stop.old ≤ S.yeses stop.new }
+{
+    match shared_leaf(alloc, n, prim, place, moves, work, stop)? {
+        LeafPart::Sum(leaf) => {
+            let places = Places {
+                from: 0,
+                middle: place,
+                to: place + 1,
+            };
+            join_part(alloc, places, sum, &leaf, moves, &mut work.steps, stop)
+        }
+        LeafPart::Over(evidence) => Ok(Part::Over(evidence)),
+        LeafPart::Stopped => Ok(Part::Stopped),
+    }
+}
 
 // The prim at a place behind the sum of those before it, or the first prim.
 fn take_prim<S: Stop>(
@@ -24,32 +63,23 @@ fn take_prim<S: Stop>(
     held: Option<PathSum>,
     place: u32,
     moves: &mut Vec<Move>,
-    steps: &mut Vec<Step>,
+    work: &mut Workspace,
     stop: &mut S,
 ) -> Result<Part, AllocError>
     requires width { (1 ≤ n) × (n ≤ 64) }
     requires within { IsWithin n prim.now }
     requires few { place < 268435456 }
     requires usable { UsableHeld n place held }
+    requires table { IsTable n work.old.leaves.items }
     ensures taken { IfOk result (λ p. (A more : List Prim) → IsProgress n A (prim.now ∷ more) held place moves.old.items → IsTaken n A more (place + 1) moves.new.items p) }
     ensures usable { IfOk result (λ p. UsablePart n (place + 1) p) }
+    ensures table { OnOk result (IsTable n work.new.leaves.items) }
     ensures stopped { IfOk result (λ p. PartRose (S.yeses stop.old) (S.yeses stop.new) p) }
     ensures never_falls { S.yeses stop.old ≤ S.yeses stop.new }
 {
-    match leaf_part(alloc, n, prim, place, moves, steps, stop)? {
-        Part::Sum(leaf) => match held {
-            None => Ok(Part::Sum(leaf)),
-            Some(sum) => {
-                let places = Places {
-                    from: 0,
-                    middle: place,
-                    to: place + 1,
-                };
-                join_part(alloc, places, sum, leaf, moves, steps, stop)
-            }
-        },
-        Part::Over(evidence) => Ok(Part::Over(evidence)),
-        Part::Stopped => Ok(Part::Stopped),
+    match held {
+        None => leaf_part(alloc, n, prim, place, moves, &mut work.steps, stop),
+        Some(sum) => take_next(alloc, n, prim, sum, place, moves, work, stop),
     }
 }
 
@@ -61,22 +91,24 @@ fn take_prims<S: Stop>(
     held: Option<PathSum>,
     place: u32,
     moves: &mut Vec<Move>,
-    steps: &mut Vec<Step>,
+    work: &mut Workspace,
     stop: &mut S,
 ) -> Result<Taken, AllocError>
     requires width { (1 ≤ n) × (n ≤ 64) }
     requires within { AllWithin n prims.now }
     requires few { place + length prims.now ≤ 268435456 }
     requires usable { UsableHeld n place held }
+    requires table { IsTable n work.old.leaves.items }
     ensures taken { IfOk result (λ t. (A more : List Prim) → IsProgress n A (prims.now ++ more) held place moves.old.items → Takes n A more (place + length prims.now) moves.new.items t) }
     ensures usable { IfOk result (λ t. UsableTaken n (place + length prims.now) t) }
+    ensures table { OnOk result (IsTable n work.new.leaves.items) }
     ensures stopped { IfOk result (λ t. TakenRose (S.yeses stop.old) (S.yeses stop.new) t) }
     ensures never_falls { S.yeses stop.old ≤ S.yeses stop.new }
 {
     let mut held = held;
     let mut at = place;
     'prims: for prim in prims {
-        match take_prim(alloc, n, prim, held, at, moves, steps, stop)? {
+        match take_prim(alloc, n, prim, held, at, moves, work, stop)? {
             Part::Sum(sum) => held = Some(sum),
             Part::Over(evidence) => return Ok(Taken::Over(evidence)),
             Part::Stopped => return Ok(Taken::Stopped),
@@ -92,13 +124,14 @@ pub fn take_items<S: Stop>(
     n: u32,
     items: &Items,
     moves: &mut Vec<Move>,
-    steps: &mut Vec<Step>,
+    work: &mut Workspace,
     stop: &mut S,
 ) -> Result<Taken, AllocError>
     requires width { (1 ≤ n) × (n ≤ 64) }
     requires within { AllWithin n (run_of items.now) }
     requires few { length items.now ≤ 65536 }
     requires fresh { moves.old.items ≡ [] }
+    requires table { IsTable n work.old.leaves.items }
     ensures taken { IfOk result (λ t. Takes n (run_of items.now) [] (length (run_of items.now)) moves.new.items t) }
     ensures usable { IfOk result (λ t. UsableTaken n (length (run_of items.now)) t) }
     ensures stopped { IfOk result (λ t. TakenRose (S.yeses stop.old) (S.yeses stop.new) t) }
@@ -107,7 +140,7 @@ pub fn take_items<S: Stop>(
     let mut at = 0;
     'items: for item in items.as_slice() {
         let prims = item.prims.as_slice();
-        match take_prims(alloc, n, prims, held, at, moves, steps, stop)? {
+        match take_prims(alloc, n, prims, held, at, moves, work, stop)? {
             Taken::Going(sum) => held = sum,
             Taken::Over(evidence) => return Ok(Taken::Over(evidence)),
             Taken::Stopped => return Ok(Taken::Stopped),

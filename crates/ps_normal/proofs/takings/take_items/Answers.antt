@@ -27,6 +27,7 @@ items-preserved g c =
     record {
       tour = tour_more c.args.n c.as_slice-item-items.result.now c.items.item-index c.items.at _ c.items.held c.in-Going.sum c.items.moves.items c.take_prims.new.moves.items c.item-item.result c.as_slice-prims.result.now c.in_ok-sum.field-0
           c.items-test.true c.item-item.is e refl c.items.invariant.tour c.in-Going.is c.in_ok-sum.ensures.taken c.in_ok-sum.ensures.usable;
+      table = c.in_ok-sum.ensures.table;
       never_falls = omega (arith, c.items.invariant.never_falls, c.take_prims.ensures.never_falls);
     }
 

@@ -1,14 +1,18 @@
+use Rattle.std.proofs.Common.{◌+◌, ◌∷◌, subst, arith}
 use Rattle.std.proofs.lemmas.Result.{IfOk-weaker}
-use Rattle.ps_normal.proofs.Taking.{first_taken, over_taken, joined_taken}
+use Rattle.ps_normal.specs.Pieces.{IsProgress}
+use Rattle.ps_normal.proofs.Taking.{first_part, usable_more}
 use Rattle.ps_normal.proofs.takings.take_prim.Goals as goal
 
 pub returns-in-None-clause-taken : goal.returns-in-None-clause-taken
-returns-in-None-clause-taken g c = λ A more w o f. first_taken c.args.n c.args.place A more c.args.moves.now.items c.leaf_part.new.moves.items c.args.prim.now c.in-Sum.leaf c.in_ok-leaf.field-0 c.args.held c.in-None.is c.in-Sum.is c.in_ok-leaf.ensures.part w o f
+returns-in-None-clause-taken g c = IfOk-weaker c.leaf_part.result _ _
+    (λ p l A more w. first_part c.args.n c.args.place A more c.args.moves.now.items c.leaf_part.new.moves.items c.args.prim.now p c.args.held c.in-None.is l w)
+    c.leaf_part.ensures.part
+
+pub returns-in-None-clause-usable : goal.returns-in-None-clause-usable
+returns-in-None-clause-usable g c = IfOk-weaker c.leaf_part.result _ _ (λ p u. usable_more c.args.n 1 (c.args.place + 1) p (omega arith) u) c.leaf_part.ensures.usable
 
 pub returns-in-Some-clause-taken : goal.returns-in-Some-clause-taken
-returns-in-Some-clause-taken g c = IfOk-weaker c.join_part.result _ _
-    (λ q j A more w. joined_taken c.args.n c.args.place A more c.args.moves.now.items c.leaf_part.new.moves.items c.join_part.new.moves.items c.args.prim.now c.in-Some.sum c.in-Sum.leaf c.in_ok-leaf.field-0 q c.args.held c.in-Some.is c.in-Sum.is c.in_ok-leaf.ensures.part j w)
-    c.join_part.ensures.part
-
-pub returns-in-Over-clause-taken : goal.returns-in-Over-clause-taken
-returns-in-Over-clause-taken g c = λ A more w. over_taken c.args.n c.args.place A more c.args.moves.now.items c.leaf_part.new.moves.items c.args.prim.now c.in-Over.evidence c.in_ok-leaf.field-0 c.args.held c.in-Over.is c.in_ok-leaf.ensures.part w
+returns-in-Some-clause-taken g c = IfOk-weaker c.take_next.result _ _
+    (λ p t A more w. t A more (subst (λ x. IsProgress c.args.n A (c.args.prim.now ∷ more) x c.args.place c.args.moves.now.items) c.in-Some.is w))
+    c.take_next.ensures.taken
