@@ -10,3 +10,4 @@ pub mod Ordered
 pub mod Settling
 pub mod Derived
 pub mod Tables
+pub mod Plains

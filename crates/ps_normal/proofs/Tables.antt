@@ -44,8 +44,11 @@ kept_made n g p T ss k ep es eq r u =
       made = q.0;
       is_leaf = q.1.0;
       reduces = subst (λ x. ReducesTo q.0 k.steps.items (normal x)) (sym es) (subst (λ x. ReducesTo q.0 x (normal T)) (sym eq) q.1.1);
-      usable = subst (Usable n 1) (sym es) (subst (UsablePart n 1) ep u);
+      usable = subst (Usable n 1) (sym es) (subst (UsablePart n 1) ep u).0;
     }
+
+pub leaf_usable : (n : ℕ) (p : Part) (S T : PathSum) → p ≡ part.Sum T → S ≡ T → UsablePart n 1 p → Usable n 1 S
+leaf_usable n p S T ep es u = subst (Usable n 1) (sym es) (subst (UsablePart n 1) ep u).0
 
 pub leaf_again : (n i : ℕ) (g : Prim) (k : Kept) (T : PathSum) (qs : List Step) (ms ms' : List Move) → IsKept n g k → T ≡ k.sum.value → qs ≡ k.steps.items → ms' ≡ ms ++ Leaf i ∷ rewrites qs → Leaves n i g ms (kept T ms')
 leaf_again n i g k T qs ms ms' w et eq m =

@@ -1,9 +1,10 @@
 -- Reduced leaves, and those that are kept.
-use Rattle.std.specs.Prelude.{ℕ, Option, Some, None, List, [], ◌∷◌}
+use Rattle.std.specs.Prelude.{ℕ, ◌≡◌, Option, Some, None, List, [], ◌∷◌}
 use Rattle.std.specs.declared.boxed.Box.{Box}
 use Rattle.std.specs.declared.alloc.Global.{Global}
 use Rattle.ps_io.specs.Counts.{Rose}
 use Rattle.ps_prim.specs.declared.prims.Primitive.{Primitive as Prim}
+use Rattle.ps_prim.specs.declared.prims.Primitive.TheVariants.{U, Cx}
 use Rattle.ps_sum.specs.declared.sums.PathSum.{PathSum}
 use Rattle.ps_rules.specs.declared.steps.Step.{Step}
 use Rattle.ps_rules.specs.declared.steps.Move.{Move}
@@ -17,6 +18,11 @@ use Rattle.ps_normal.specs.declared.parts.Part.TheVariants.{Sum, Over, Stopped}
 use Rattle.ps_normal.specs.declared.parts.LeafPart.{LeafPart}
 use Rattle.ps_normal.specs.declared.parts.LeafPart.TheVariants as leaf
 use Rattle.ps_normal.specs.Pieces.{Usable}
+
+-- a Cx, or a U at theta 0: its sum has no path variable
+abbrev pub IsPlainPrim : Prim → Type 0
+IsPlainPrim (U theta phi lambda q) = theta ≡ 0
+IsPlainPrim (Cx c t) = Unit {0}
 
 -- reducing S took these steps where a sum came of it
 abbrev pub IsReducedPart : PathSum → List Step → Part → Type 0

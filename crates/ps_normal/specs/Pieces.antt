@@ -4,6 +4,7 @@ use Rattle.ps_io.specs.Counts.{Rose}
 use Rattle.ps_prim.specs.declared.prims.Primitive.{Primitive as Prim}
 use Rattle.ps_sum.specs.declared.sums.PathSum.{PathSum}
 use Rattle.ps_rules.specs.declared.steps.Move.{Move}
+use Rattle.ps_rules.specs.Rules.{IsIrreducible}
 use Rattle.ps_reach.specs.Parts.{Scaled, overrun_of}
 use Rattle.ps_reach.specs.Fillings.{Outcome, kept, passed, FillsFrom, Fills}
 use Rattle.ps_normal.specs.declared.parts.Part.{Part}
@@ -37,8 +38,9 @@ pub record Joinable (S1 S2 : PathSum) : Type 0 where
   pub first : Usable n before S1
   pub second : Usable n behind S2
 
+-- a sum that came of it is such a sum, and no step reduces it
 abbrev pub UsablePart : ℕ → ℕ → Part → Type 0
-UsablePart n count (Sum T) = Usable n count T
+UsablePart n count (Sum T) = Usable n count T × IsIrreducible T
 UsablePart n count (Over e) = Unit {0}
 UsablePart n count Stopped = Unit {0}
 

@@ -4,6 +4,7 @@ use Rattle.ps_io.specs.Counts.{Rose}
 use Rattle.ps_prim.specs.declared.prims.Primitive.{Primitive as Prim}
 use Rattle.ps_sum.specs.declared.sums.PathSum.{PathSum}
 use Rattle.ps_rules.specs.declared.steps.Move.{Move}
+use Rattle.ps_rules.specs.Rules.{IsIrreducible}
 use Rattle.ps_reach.specs.Parts.{overrun_of}
 use Rattle.ps_reach.specs.Fillings.{passed, Fills}
 use Rattle.ps_normal.specs.declared.parts.Taken.{Taken}
@@ -18,7 +19,7 @@ Takes n A more i ms Stopped = Unit {0}
 
 abbrev pub UsableHeld : ℕ → ℕ → Option PathSum → Type 0
 UsableHeld n count None = Unit {0}
-UsableHeld n count (Some S) = Usable n count S
+UsableHeld n count (Some S) = Usable n count S × IsIrreducible S
 
 abbrev pub UsableTaken : ℕ → ℕ → Taken → Type 0
 UsableTaken n count (Going held) = UsableHeld n count held

@@ -1,19 +1,20 @@
 //! The sum of one prim, and two sums one after the other, reduced.
 
-ghost use Rattle.std.specs.Prelude.{◌≡◌, ℕ, ◌<◌, ◌≤◌, ◌+◌, List, IfOk};
+ghost use Rattle.std.specs.Prelude.{◌≡◌, ℕ, ◌<◌, ◌≤◌, ◌+◌, ◌↔◌, List, IfOk, IsTrue};
 ghost use Rattle.ps_prim.specs.declared.prims.Primitive.{Primitive as Prim};
 ghost use Rattle.ps_prim.specs.Maps.{IsWithin};
 ghost use Rattle.ps_sum.specs.declared.sums.PathSum.{PathSum};
 ghost use Rattle.ps_rules.specs.declared.steps.Move.TheVariants.{Leaf, Join};
+ghost use Rattle.ps_rules.specs.Rules.{IsIrreducible};
 ghost use Rattle.ps_join.specs.Joining.{IsLeafOf, IsJoinOf, JoinFits};
 ghost use Rattle.ps_reach.specs.Fillings.{Leaves, Joins};
 ghost use Rattle.ps_normal.specs.Ends.{IsEnded, HasRisen};
 ghost use Rattle.ps_normal.specs.Pieces.{PartIs, PartRose, Usable, UsablePart, Joinable};
-ghost use Rattle.ps_normal.specs.Keeping.{IsReducedPart, IsReducedLeaf};
+ghost use Rattle.ps_normal.specs.Keeping.{IsPlainPrim, IsReducedPart, IsReducedLeaf};
 
 use super::evidences::{evidence, push_moves, shared_evidence};
 use super::parts::{Ended, Part, Places};
-use super::reduce::reduce;
+use super::reduce::{reduce, settle};
 use ps_io::Stop;
 use ps_join::{OntoFault, join_onto, leaf};
 use ps_prim::Prim;
@@ -79,17 +80,30 @@ pub fn leaf_part<S: Stop>(
     ended_part(alloc, places, Move::Leaf(place), ended, moves, steps)
 }
 
-/// The second sum behind the first, which is given away, reduced.
+/// Whether the prim's sum has no path variable.
+pub fn is_plain(prim: &Prim) -> bool
+    ensures { IsTrue result ↔ IsPlainPrim prim.now }
+{
+    match *prim {
+        Prim::U { theta, .. } => theta.units() == 0,
+        Prim::Cx { .. } => true,
+    }
+}
+
+/// The second sum behind the first, which is given away, reduced; where it is known that no step
+/// applies to it, none is looked for.
 pub fn join_part<S: Stop>(
     alloc: Global,
     places: Places,
     first: PathSum,
     second: &Arc<PathSum>,
+    still: bool,
     moves: &mut Vec<Move>,
     steps: &mut Vec<Step>,
     stop: &mut S,
 ) -> Result<Part, AllocError>
     requires ready { Joinable first second.now.value }
+    requires still { IsTrue still → (T : PathSum) → IsJoinOf first second.now.value T → IsIrreducible T }
     ensures part { IfOk result (λ p. PartIs (Joins places.from places.middle places.to first second.now.value moves.old.items) moves.new.items p) }
     ensures usable { IfOk result (λ p. (n a b : ℕ) → Usable n a first → Usable n b second.now.value → UsablePart n (a + b) p) }
     ensures stopped { IfOk result (λ p. PartRose (S.yeses stop.old) (S.yeses stop.new) p) }
@@ -97,7 +111,7 @@ pub fn join_part<S: Stop>(
 {
     match join_onto(alloc, first, second) {
         Ok(sum) => {
-            let ended = reduce(alloc, sum, steps, stop)?;
+            let ended = settle(alloc, sum, still, steps, stop)?;
             ended_part(alloc, places, Move::Join, ended, moves, steps)
         }
         Err(OntoFault::Passed { passed, first }) => {

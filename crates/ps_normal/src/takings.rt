@@ -4,14 +4,14 @@ ghost use Rattle.std.specs.Prelude.{◌≡◌, ℕ, ◌<◌, ◌≤◌, ◌+◌,
 ghost use Rattle.ps_prim.specs.declared.prims.Primitive.{Primitive as Prim};
 ghost use Rattle.ps_prim.specs.Maps.{IsWithin, AllWithin};
 ghost use Rattle.ps_reach.specs.Runs.{run_of};
-ghost use Rattle.ps_normal.specs.Pieces.{PartRose, Usable, UsablePart, IsProgress, IsTaken};
+ghost use Rattle.ps_normal.specs.Pieces.{PartRose, UsablePart, IsProgress, IsTaken};
 ghost use Rattle.ps_normal.specs.Keeping.{IsTable};
 ghost use Rattle.ps_normal.specs.Takings.{Takes, UsableHeld, UsableTaken, TakenRose};
 
 use super::kept::Workspace;
 use super::leaves::shared_leaf;
 use super::parts::{LeafPart, Part, Places, Taken};
-use super::prims::{join_part, leaf_part};
+use super::prims::{is_plain, join_part, leaf_part};
 use ps_io::Stop;
 use ps_prim::Prim;
 use ps_reach::Items;
@@ -33,7 +33,7 @@ fn take_next<S: Stop>(
     requires width { (1 ≤ n) × (n ≤ 64) }
     requires within { IsWithin n prim.now }
     requires few { place < 268435456 }
-    requires usable { Usable n place sum }
+    requires usable { UsableHeld n place (Some sum) }
     requires table { IsTable n work.old.leaves.items }
     ensures taken { IfOk result (λ p. (A more : List Prim) → IsProgress n A (prim.now ∷ more) (Some sum) place moves.old.items → IsTaken n A more (place + 1) moves.new.items p) }
     ensures usable { IfOk result (λ p. UsablePart n (place + 1) p) }
@@ -48,7 +48,17 @@ fn take_next<S: Stop>(
                 middle: place,
                 to: place + 1,
             };
-            join_part(alloc, places, sum, &leaf, moves, &mut work.steps, stop)
+            let still = is_plain(prim);
+            join_part(
+                alloc,
+                places,
+                sum,
+                &leaf,
+                still,
+                moves,
+                &mut work.steps,
+                stop,
+            )
         }
         LeafPart::Over(evidence) => Ok(Part::Over(evidence)),
         LeafPart::Stopped => Ok(Part::Stopped),
