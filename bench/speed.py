@@ -10,9 +10,10 @@ records with `family`, `size`, `words` (the command: same or prove) and `file`. 
 (60 seconds) is ended.
 
 Seconds are those of the processor, user and system, the least of N runs (3, or 1 where a run takes over two
-seconds). Growth is the power of the size with which the time grows between the last two sizes that take PROGRAM (or
-PLAIN) a hundredth of a second or more. The peak is what the system tells of the ended process; this script's own size,
-which is told where a program takes less, stands as `<`. The exit status is 1 where two answers differ.
+seconds). Growth is the power of the size with which the time grows from at most half of the greatest size to it, where
+both take PROGRAM (or PLAIN) a hundredth of a second or more. The peak is what the system tells of the ended process;
+this script's own size, which is told where a program takes less, stands as `<`. The exit status is 1 where two answers
+differ.
 """
 import argparse
 import json
@@ -97,11 +98,12 @@ def best(program, words, given, limit, times):
 
 
 def growth(sizes, seconds):
-    """The power with which the time grows between the last two sizes that take long enough."""
+    """The power with which the time grows from at most half of the greatest size to it, where both take long enough."""
     known = [(n, s) for n, s in zip(sizes, seconds) if s is not None and s >= 0.01]
-    if len(known) < 2:
+    less = [(n, s) for n, s in known if 2 * n <= known[-1][0]]
+    if not less:
         return "-"
-    (n, s), (m, t) = known[-2:]
+    (n, s), (m, t) = less[-1], known[-1]
     return f"{math.log(t / s) / math.log(m / n):.1f}"
 
 
@@ -123,7 +125,7 @@ def row(family, runs, floor):
     peaks = "/".join("over" if r is None else f"{r[1]:.0f}" if r[1] > floor else f"<{floor:.0f}" for r in (mine, theirs))
     answer = (theirs or mine)[2][1].split(b"\n")[0].decode(errors="replace")
     answer = " ".join(answer.split()[:2])[:18] if answer.startswith("unknown") else answer.split(" ")[0][:18]
-    steps = " ".join(str(n) for n in sizes)
+    steps = f"{sizes[0]} to {sizes[-1]}"
     rise = f"{growth(sizes, ours)}/{growth(sizes, plain)}"
     cell = "-" if ratio is None else f"{ratio:.2f}"
     return f"| {family} | {steps} | {answer} | {told(mine and mine[0])} | {told(theirs and theirs[0])} | {cell} | {rise} | {peaks} |", ratio
