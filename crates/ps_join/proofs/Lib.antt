@@ -4,5 +4,4 @@ pub mod NamedParts
 pub mod Chains
 pub mod Merging
 pub mod Only
-pub mod Weaves
 pub mod Pairs

@@ -5,4 +5,3 @@ pub mod OntoFaults
 pub mod Naming
 pub mod Parts
 pub mod Laws
-pub mod Weaving

@@ -7,7 +7,6 @@ ghost use Rattle.ps_join.specs.Faults.{IsJoinFault};
 ghost use Rattle.ps_join.specs.OntoFaults.{IsOntoFault};
 ghost use Rattle.ps_join.specs.Parts.{IsParts, OutputParts, Placed};
 
-use super::adding::added;
 use super::naming::Names;
 use super::onto_fault::OntoFault;
 use super::replacing::{replaced_outputs, replaced_phase};
@@ -129,7 +128,8 @@ fn merged(first: PathSum, second: &PathSum, parts: Parts) -> Result<PathSum, All
         phase: behind,
         outs: changed,
     } = parts;
-    let sum = added(phase, &behind)?;
+    let mut sum = phase;
+    sum.add_to(&behind)?;
     let outs = placed(outs.into_polys(), changed);
     Ok(PathSum {
         n,

@@ -1,7 +1,6 @@
 //! The path sums of primitive gates, and path sums one after the other.
 #![tactic(auto)]
 
-mod adding;
 pub mod joins;
 pub mod laws;
 pub mod leaves;

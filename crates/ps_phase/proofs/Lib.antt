@@ -5,3 +5,4 @@ pub mod Values
 pub mod Unique
 pub mod Absorbing
 pub mod Runs
+pub mod Weaves

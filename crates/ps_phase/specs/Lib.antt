@@ -1,3 +1,4 @@
 pub mod Phases
 pub mod Adding
 pub mod Placing
+pub mod Weaving

@@ -6,6 +6,7 @@ mod inplace;
 pub mod merging;
 pub mod poly;
 pub mod terms;
+mod weaving;
 
 pub use poly::PhasePoly;
 pub use terms::Term;

@@ -7,10 +7,14 @@ use super::gathering::{combine, is_ordered};
 use super::inplace::{absorb, fits};
 use super::merging::{added, push_term, scaled, selected};
 use super::terms::Term;
+use super::weaving::weave;
 use ps_mono::{Bits, Mono};
 use ps_ring::Phase;
 use std::alloc::{AllocError, Global};
 use std::marker::Model;
+
+// The others are few where there are so many times more terms.
+const FEW: usize = 16;
 
 /// A sum of terms: each monomial once, in the order of `Mono::compare`, with a phase that is not zero.
 ///
@@ -81,20 +85,19 @@ impl PhasePoly {
         Ok(PhasePoly { terms })
     }
 
-    /// Adds the other one to this one. `AllocError` is want of memory, and leaves this one as it was.
+    /// Adds the other one to this one, in its memory. `AllocError` is want of memory, and leaves this one as
+    /// it was.
     pub fn add_to(&mut self, other: &PhasePoly) -> Result<(), AllocError>
         ensures value { OnOk result ((a : ℕ → Bool) → phase_value self.new a % 4294967296 ≡ (phase_value self.old a + phase_value other.now a) % 4294967296) }
         ensures variables { OnOk result ((v : ℕ) → phase_occurs v self.new ≡ true → (phase_occurs v self.old || phase_occurs v other.now) ≡ true) }
         ensures form { IsPhasePoly self.new }
         ensures kept { OnErr result (self.new ≡ self.old) }
     {
-        if fits(&self.terms, &other.terms) {
+        if other.terms.len() < self.terms.len() / FEW && fits(&self.terms, &other.terms) {
             absorb(&mut self.terms, &other.terms);
             return Ok(());
         }
-        let terms = added(*self.terms.allocator(), &self.terms, &other.terms)?;
-        self.terms = terms;
-        Ok(())
+        weave(&mut self.terms, &other.terms)
     }
 
     /// What gives whole turns with this one. `AllocError` is want of memory.

@@ -17,10 +17,10 @@ invariant_of-result c =
       qubits = s1.qubits;
       named = omega (arith, c.requires.named);
       scaled = rw (two_k s1.k s2.k f g h) c.requires.scaled;
-      phase_below = joined_phase_below s1.n s1.m s2.m s1.phase c.args.parts.phase c.in_ok-sum.sum s1.phase_below c.requires.parts.phase_part.below c.in_ok-sum.ensures.variables;
+      phase_below = joined_phase_below s1.n s1.m s2.m s1.phase c.args.parts.phase _ s1.phase_below c.requires.parts.phase_part.below c.in_ok-add_to.ensures.variables;
       outs_below = o.below;
       width = λ z. o.wide;
-      formed = (c.in_ok-sum.ensures.form, o.polys);
+      formed = (c.in_ok-add_to.ensures.form, o.polys);
     }
 
 pub returns-clause-sum : goal.returns-clause-sum
@@ -30,7 +30,7 @@ returns-clause-sum c =
     let f : SFits w32 s1.k = search rules in
     let g : SFits w32 s2.k = search rules in
     let h : SFits w32 (s1.k +ℤ s2.k) = search rules in
-    joined s1 s2 _ c.args.parts.phase c.requires.qubits (open_wide s1 c.requires.first_open) refl refl (two_k s1.k s2.k f g h) c.requires.parts.phase_part c.in_ok-sum.ensures.value
+    joined s1 s2 _ c.args.parts.phase c.requires.qubits (open_wide s1 c.requires.first_open) refl refl (two_k s1.k s2.k f g h) c.requires.parts.phase_part c.in_ok-add_to.ensures.value
     (outputs_kept s1 s2 _ _ _ _ c.requires.qubits c.requires.first_open c.requires.second_open c.into_polys.ensures c.of.ensures c.requires.parts.outs_part c.placed-outs.ensures)
 
 pub returns-clause-wide : goal.returns-clause-wide

@@ -1,7 +1,7 @@
 use Rattle.std.proofs.Common.{arith, refl, sym, ◌∙◌, ap, ◌-◌}
 use Rattle.ps_phase.specs.declared.terms.Term.{Term}
-use Rattle.ps_join.proofs.Weaves.{wove_both, wove_none}
-use Rattle.ps_join.proofs.adding.met.Goals as goal
+use Rattle.ps_phase.proofs.Weaves.{wove_both, wove_none}
+use Rattle.ps_phase.proofs.weaving.met.Goals as goal
 
 pub returns-then-units-eq0 : goal.returns-then-units-eq0
 returns-then-units-eq0 c xs ys fx fy e s = (

@@ -1,6 +1,6 @@
 use Rattle.std.proofs.Common.{◌+◌}
-use Rattle.ps_join.specs.Weaving.{Weaving}
-use Rattle.ps_join.proofs.adding.weave.Given as goal
+use Rattle.ps_phase.specs.Weaving.{Weaving}
+use Rattle.ps_phase.proofs.weaving.weave.Given as goal
 
 abbrev pub decreases-loop-place : goal.decreases-loop-place
 decreases-loop-place l = l.place.left + l.place.more
