@@ -1,6 +1,7 @@
 pub mod Aimed
 pub mod Aiming
 pub mod Applied
+pub mod Expansions
 pub mod Expressions
 pub mod Fitting
 pub mod Keeping

@@ -8,6 +8,7 @@ pub mod States
 pub mod Bodies
 pub mod Frames
 pub mod Targets
+pub mod Ready
 pub mod Aims
 pub mod Statements
 pub mod Blocks

@@ -13,6 +13,7 @@ ghost use Rattle.qasm_expand.specs.States.{IsSound, Became, in_block};
 ghost use Rattle.qasm_expand.specs.Targets.{targets_of, index_count as indices, qubits_at, items_from, expression_at as offset_of, broken_at as fault_of_broken, Applies};
 ghost use Rattle.qasm_expand.specs.Statements.{behind};
 ghost use Rattle.qasm_expand.specs.Aims.{Within};
+ghost use Rattle.qasm_expand.specs.Ready.{AreExpansions};
 
 use crate::bodies::comes;
 use crate::bounds::Bounds;
@@ -20,6 +21,7 @@ use crate::broken::Broken;
 use crate::defs::Defs;
 use crate::fault::{FaultName, ReadFault};
 use crate::item_list::Items;
+use crate::ready::Ready;
 use crate::registers::Registers;
 use crate::target::Target;
 use crate::targets::{aim, index_count, qubit, targets};
@@ -126,28 +128,39 @@ fn broken_at(call: &Call, broken: Broken) -> ReadFault
     }
 }
 
-/// Applies a gate: behind the items there is one more for each index.
+/// Applies a gate: behind the items there is one more for each index. What a gate without parameters
+/// comes to is kept for the next time.
 pub fn apply(
     alloc: Global,
     bytes: &[u8],
     registers: &Registers,
     defs: &Defs,
     bound: &Bounds,
+    ready: &mut Ready,
     items: &mut Items,
     call: &Call,
 ) -> Result<(), ReadFault>
     requires sound { IsSound (in_block registers.now defs.now bound.now items.old) }
     requires inside { CallIn bytes.now call.now }
+    requires ready { AreExpansions defs.now ready.old.slots.items }
     ensures applies { Became result (in_block registers.now defs.now bound.now items.new) (λ r. (o : Result (List (List Prim)) ReadFault) × Applies bytes.now registers.now defs.now bound.now (length items.old) call.now o × (r ≡ behind (in_block registers.now defs.now bound.now items.old) o)) }
     ensures sound { OnOk result (IsSound (in_block registers.now defs.now bound.now items.new)) }
+    ensures ready { OnOk result (AreExpansions defs.now ready.new.slots.items) }
 {
     let aimed = aim(alloc, bytes, registers, defs, bound, items, call)?;
-    let prims = match comes(alloc, defs, aimed.gate, call.params.items()) {
+    let formulas = call.params.items();
+    let targets = aimed.targets.as_slice();
+    let count = index_count(targets);
+    if let Some(prims) = ready.prims(aimed.gate, formulas) {
+        add(alloc, items, targets, count, prims)?;
+        return Ok(());
+    }
+    let prims = match comes(alloc, defs, aimed.gate, formulas) {
         Ok(prims) => prims,
         Err(broken) => return Err(broken_at(call, broken)),
     };
-    let targets = aimed.targets.as_slice();
-    add(alloc, items, targets, index_count(targets), &prims)?;
+    add(alloc, items, targets, count, &prims)?;
+    ready.keep(aimed.gate, formulas, prims)?;
     Ok(())
 }
 

@@ -10,11 +10,13 @@ ghost use Rattle.qasm_expand.specs.Statements.{Takes, Expands};
 ghost use Rattle.qasm_expand.specs.Circuits.{ReadsBlock};
 ghost use Rattle.qasm_expand.specs.Reading.{table_in, ItemsTold};
 ghost use Rattle.qasm_expand.specs.Blocks.{IsPlain, known_with};
+ghost use Rattle.qasm_expand.specs.Ready.{AreExpansions};
 
 use crate::applying::{apply, barrier};
 use crate::fault::ReadFault;
 use crate::item_list::Items;
 use crate::programs::block_program;
+use crate::ready::Ready;
 use crate::tables::Table;
 use qasm_parse::Statement;
 use std::alloc::Global;
@@ -24,14 +26,17 @@ fn take(
     alloc: Global,
     bytes: &[u8],
     table: &Table,
+    ready: &mut Ready,
     items: &mut Items,
     statement: &Statement,
 ) -> Result<(), ReadFault>
     requires sound { IsSound (known_with table.now items.old) }
     requires inside { StatementIn bytes.now statement.now }
     requires plain { IsPlain statement.now }
+    requires ready { AreExpansions table.now.defs ready.old.slots.items }
     ensures taken { Became result (known_with table.now items.new) (Takes bytes.now (known_with table.now items.old) statement.now) }
     ensures sound { OnOk result (IsSound (known_with table.now items.new)) }
+    ensures ready { OnOk result (AreExpansions table.now.defs ready.new.slots.items) }
 {
     match statement {
         Statement::Apply(call) => apply(
@@ -40,6 +45,7 @@ fn take(
             &table.registers,
             &table.defs,
             &table.bound,
+            ready,
             items,
             call,
         ),
@@ -62,8 +68,9 @@ fn expand(
     ensures expanded { Became result (known_with table.now items.new) (Expands bytes.now (known_with table.now items.old) statements.now) }
     ensures sound { OnOk result (IsSound (known_with table.now items.new)) }
 {
+    let mut ready = Ready::new(alloc);
     for statement in statements {
-        match take(alloc, bytes, table, items, statement) {
+        match take(alloc, bytes, table, &mut ready, items, statement) {
             Ok(()) => {}
             Err(fault) => return Err(fault),
         }

@@ -21,6 +21,7 @@ pub mod library;
 pub mod naming;
 pub mod numbers;
 pub mod programs;
+pub mod ready;
 pub mod registers;
 pub mod spelling;
 pub mod state;

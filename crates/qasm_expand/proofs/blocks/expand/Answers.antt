@@ -12,6 +12,7 @@ loop-statement-preserved c = record {
   walked = walked_more c.args.bytes.now (known_with c.args.table.now c.args.items.now) (known_with c.args.table.now c.loop-statement.items) (known_with c.args.table.now c.take.new.items) c.args.statements.now c.statement-item.result
       c.loop-statement.statement-index c.loop-statement.invariant.walked c.loop-statement-test.true c.statement-item.is c.in-Ok.ensures.taken;
   sound = c.in-Ok.ensures.sound;
+  ready = c.in-Ok.ensures.ready;
 }
 
 pub returns-clause-expanded : goal.returns-clause-expanded

@@ -9,6 +9,7 @@ pub loop-statement-preserved : goal.loop-statement-preserved
 loop-statement-preserved c = record {
   walked = walked_more c.args.bytes.now c.args.state.now c.loop-statement.state c.take.new.state c.args.statements.now c.statement-item.result c.loop-statement.statement-index c.loop-statement.invariant.walked c.loop-statement-test.true c.statement-item.is c.in-Ok.ensures.taken;
   sound = c.in-Ok.ensures.sound;
+  ready = c.in-Ok.ensures.ready;
 }
 
 pub returns-clause-expanded : goal.returns-clause-expanded

@@ -1,5 +1,6 @@
 use Rattle.qasm_expand.specs.Targets.{targets_of}
 use Rattle.qasm_expand.proofs.Taking.{sound_within, applied_again, passed, take_include, take_quantum, take_classical, take_gate, take_apply, take_barrier}
+use Rattle.qasm_expand.proofs.Expansions.{kept_anyhow}
 use Rattle.qasm_expand.proofs.expanding.take.Goals as goal
 
 pub returns-in-Include-clause-taken : goal.returns-in-Include-clause-taken
@@ -24,3 +25,15 @@ returns-in-Apply-clause-taken c = take_apply c.args.bytes.now c.args.state.now _
 pub returns-in-Barrier-clause-taken : goal.returns-in-Barrier-clause-taken
 returns-in-Barrier-clause-taken c = take_barrier c.args.bytes.now c.args.state.now c.args.state.now c.args.statement.now c.barrier.result c.in-Barrier.args c.items-in-Barrier.result.now c.in-Barrier.is c.items-in-Barrier.ensures
     (passed c.args.state.now (targets_of c.args.bytes.now c.args.state.now.registers c.items-in-Barrier.result.now) c.barrier.result c.barrier.ensures)
+
+pub returns-in-Include-clause-ready : goal.returns-in-Include-clause-ready
+returns-in-Include-clause-ready c = kept_anyhow c.include.result _ (c.clear.ensures c.include.new.state.defs)
+
+pub returns-in-Qreg-clause-ready : goal.returns-in-Qreg-clause-ready
+returns-in-Qreg-clause-ready c = kept_anyhow c.declare.result _ (c.clear-in-Qreg.ensures c.declare.new.state.defs)
+
+pub returns-in-Creg-clause-ready : goal.returns-in-Creg-clause-ready
+returns-in-Creg-clause-ready c = kept_anyhow c.declare-in-Creg.result _ (c.clear-in-Creg.ensures c.declare-in-Creg.new.state.defs)
+
+pub returns-in-Gate-clause-ready : goal.returns-in-Gate-clause-ready
+returns-in-Gate-clause-ready c = kept_anyhow c.definition.result _ (c.clear-in-Gate.ensures c.definition.new.state.defs)
