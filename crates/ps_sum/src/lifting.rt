@@ -17,7 +17,7 @@ use std::alloc::{AllocError, Global};
 const TABLE: u32 = 14;
 
 // From so many products on, those of a step are added before the next one.
-const MANY: u64 = 8192;
+const MANY: u64 = 64;
 
 /// The phase `by` at each assignment at which `poly` is 1, and none where it is 0.
 ///
