@@ -107,6 +107,7 @@ impl Mono {
     }
 
     /// The product: the variables of both.
+    #[inline]
     pub fn union(&self, other: &Mono) -> Mono
         ensures members { (v : ℕ) → stands v result ≡ (stands v self.now || stands v other.now) }
         ensures form { IsVarSet result }
@@ -264,6 +265,7 @@ impl Mono {
     }
 
     // At one degree, the set with the lowest variable that is not in both comes first.
+    #[inline]
     fn compare_equal(&self, other: &Mono) -> Ordering
         requires { length self.now ≡ length other.now }
         ensures { result ≡ slice_cmp nat_cmp self.now other.now }

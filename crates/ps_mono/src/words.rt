@@ -3,6 +3,7 @@ ghost use Rattle.ps_mono.specs.Sets.{is_set, has, vars, Fits8};
 ghost use Rattle.ps_mono.specs.Names.{opened};
 
 // How many variables the words have.
+#[inline]
 pub fn count_vars(words: &[u64; 8]) -> u32
     requires { Fits8 words.now }
     ensures { result ≡ length (vars words.now) }
@@ -18,6 +19,7 @@ pub fn count_vars(words: &[u64; 8]) -> u32
 }
 
 // The words with the ones of both.
+#[inline]
 pub fn joined_words(xs: &[u64; 8], ys: &[u64; 8]) -> [u64; 8]
     requires first { Fits8 xs.now }
     requires second { Fits8 ys.now }

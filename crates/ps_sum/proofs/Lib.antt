@@ -6,3 +6,5 @@ pub mod Uniqueness
 pub mod Withins
 pub mod Texting
 pub mod Summing
+pub mod TableWorths
+pub mod Multiplies

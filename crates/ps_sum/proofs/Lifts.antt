@@ -73,7 +73,7 @@ pub pushed_value : (m : List ℕ) (by i : ℕ) (ts out vs : List Term) → lengt
 pushed_value m by i ts out vs h p e a = e a ∙ p.value a ∙ ap (λ (r : List Term). times (holds m a) (by + 4294967294 * phase_value r a) % M) (take_all i ts h)
 
 -- what is not there before is not there after
-to_none : (p q : Bool) → (q ≡ true → p ≡ true) → p ≡ false → q ≡ false
+pub to_none : (p q : Bool) → (q ≡ true → p ≡ true) → p ≡ false → q ≡ false
 to_none p true h e = absurd (clash (sym e ∙ h refl))
   where
     clash : false ≡ true → ⊥

@@ -3,7 +3,8 @@ use Rattle.std.proofs.Common.{◌≡◌, ℕ, ◌+◌, ◌%◌, refl, ap, ap₂,
 use Rattle.std.proofs.lemmas.List.{take_more, take_all}
 use Rattle.ps_phase.specs.declared.terms.Term.{Term}
 use Rattle.ps_mono.specs.Sets.{holds, stands}
-use Rattle.ps_mono.specs.Lists.{nat_eq_true}
+use Rattle.std.specs.Cmp.Lexicographic.{pointwise}
+use Rattle.ps_mono.specs.Lists.{nat_eq_true, nat_eq_same}
 use Rattle.ps_mono.specs.Truth.{times, differ, with_value}
 use Rattle.ps_mono.proofs.Laws.{holds_union}
 use Rattle.ps_bool.specs.Polys.{bool_value, occurs}
@@ -12,7 +13,7 @@ use Rattle.ps_phase.specs.Phases.{phase_value, phase_occurs}
 use Rattle.ps_phase.specs.Adding.{terms_where}
 use Rattle.ps_phase.proofs.Adding.{M, no_or, times_none}
 use Rattle.ps_phase.proofs.Scaling.{split_value}
-use Rattle.ps_phase.proofs.Values.{phase_append, one_value, phase_more, free_push, occurs_at, phase_agree}
+use Rattle.ps_phase.proofs.Values.{mono_eq, phase_append, one_value, phase_more, free_push, occurs_at, phase_agree}
 use Rattle.ps_sum.proofs.Lifts.{occurs_get, none_value, none_occurs}
 
 -- ---- the loop of `push_multiples`
@@ -246,3 +247,27 @@ subst_free v poly ts kept out products sum ek oo po so u h = pick (phase_occurs 
     pick : (q : Bool) → phase_occurs u kept ≡ q → (q || phase_occurs u products) ≡ true → may_stand u v poly ts ≡ true
     pick true e k = let w = sym (ap (phase_occurs u) ek) ∙ e in or_left _ _ (ap₂ (λ (x y : Bool). x && y) (kept_occurs u v ts w) (apart (nat_eq u v) refl w))
     pick false e k = oo u (po u k)
+
+-- ---- the variable alone
+pub only_term : (v phase : ℕ) (b : Bool) (m k : List ℕ) (ts : List Term) (t : Term) → length ts ≡ 1 → t ≡ get_or ts 0 t → k ≡ v ∷ [] → b ≡ pointwise nat_eq t.mono k → b ≡ true → phase ≡ t.phase → ts ≡ record { mono = v ∷ []; phase = phase } ∷ []
+only_term v phase b m k [] t n e ek eb h ep = absurd (omega (arith, n))
+only_term v phase b m k (x ∷ []) t n e ek eb h ep =
+    let w : t.mono ≡ v ∷ [] = (mono_eq t.mono k).0 (sym eb ∙ h) ∙ ek in
+    ap (λ (r : Term). r ∷ []) (sym e ∙ ap₂ (λ (m : List ℕ) (p : ℕ). record { mono = m; phase = p }) w (sym ep))
+only_term v phase b m k (x ∷ y ∷ ts) t n e ek eb h ep = absurd (omega (arith, n))
+
+same_name : (v : ℕ) (a : ℕ → Bool) (b : Bool) → (with_value a v b v && true) ≡ b
+same_name v a b = ap (λ k. cond k b (a v) && true) (nat_eq_same v) ∙ and_end b
+  where
+    and_end : (b : Bool) → (b && true) ≡ b
+    and_end true = refl
+    and_end false = refl
+
+pub alone_value : (v phase : ℕ) (by : List (List ℕ)) (ts p : List Term) → ts ≡ record { mono = v ∷ []; phase = phase } ∷ [] → ((a : ℕ → Bool) → phase_value p a % M ≡ times (bool_value by a) phase % M) → (a : ℕ → Bool) → phase_value p a % M ≡ phase_value ts (with_value a v (bool_value by a)) % M
+unfolding holds
+alone_value v phase by ts p e f a =
+    let b = bool_value by a in
+    f a ∙ ap (λ r. times r phase % M) (sym (same_name v a b)) ∙ sym (ap (λ r. r % M) (ap (λ (r : List Term). phase_value r (with_value a v b)) e ∙ one_value (record { mono = v ∷ []; phase = phase }) (with_value a v b)))
+
+pub alone_free : (v : ℕ) (by : List (List ℕ)) (ts p : List Term) → ((u : ℕ) → phase_occurs u p ≡ true → occurs u by ≡ true) → (u : ℕ) → phase_occurs u p ≡ true → may_stand u v by ts ≡ true
+alone_free v by ts p f u h = or_right (phase_occurs u ts && not (nat_eq u v)) (occurs u by) (f u h)

@@ -6,11 +6,14 @@ pub mod counts;
 pub mod faults;
 pub mod lifting;
 pub mod making;
+mod multiplying;
 pub mod outputs;
 mod renaming;
 pub mod sizes;
 pub mod substituting;
 pub mod sums;
+mod tables;
+mod tabling;
 mod texts;
 
 pub use counts::{raw_bool, raw_phase, raw_term};

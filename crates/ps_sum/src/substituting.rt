@@ -1,4 +1,4 @@
-ghost use Rattle.std.specs.Prelude.{◌≡◌, ℕ, ◌<◌, ◌+◌, ◌%◌, Bool, true, false, not, nat_eq, ◌&&◌, ◌||◌, IfOk, OnOk};
+ghost use Rattle.std.specs.Prelude.{◌≡◌, ℕ, ◌<◌, ◌+◌, ◌%◌, Bool, true, false, not, nat_eq, ◌&&◌, ◌||◌, [], ◌∷◌, IfOk, OnOk, IfSome};
 ghost use Rattle.ps_mono.specs.Sets.{holds, stands};
 ghost use Rattle.ps_mono.specs.Truth.{times, with_value};
 ghost use Rattle.ps_bool.specs.Polys.{bool_value, occurs};
@@ -30,10 +30,29 @@ pub fn subst_phase(
     ensures variables { IfOk result (λ p. (u : ℕ) → phase_occurs u p ≡ true → ((phase_occurs u poly.now && not (nat_eq u v)) || occurs u by.now) ≡ true) }
     ensures form { IfOk result (λ p. IsPhasePoly p) }
 {
+    if let Some(phase) = alone(poly, v) {
+        return lift(alloc, by, phase);
+    }
     let products = PhasePoly::gather(replaced(alloc, poly, v, by)?)?;
     let mut sum = poly.terms_without(v)?;
     sum.add_to(&products)?;
     Ok(sum)
+}
+
+// The phase of variable v, where the polynomial has no other term.
+fn alone(poly: &PhasePoly, v: u16) -> Option<Phase>
+    requires { v < 512 }
+    ensures { IfSome result (λ p. poly.now ≡ record { mono = v ∷ []; phase = p } ∷ []) }
+{
+    if poly.count() != 1 {
+        return None;
+    }
+    let term = &poly.terms()[0];
+    if term.mono == Mono::var(v) {
+        Some(term.phase)
+    } else {
+        None
+    }
 }
 
 // The terms with v, with the lift of `by` in its place.
