@@ -13,3 +13,4 @@ pub mod Quotients
 pub mod Takes
 pub mod Replaces
 pub mod Gathers
+pub mod Twice

@@ -100,6 +100,13 @@ OutsUnder b fs = (u : ℕ) → b ≤ u → outs_occur u fs ≡ false
 pub polys_under : (v b : ℕ) (fs : List (List (List ℕ))) → v < suc b → outs_occur v fs ≡ false → OutsUnder (suc b) fs → OutsUnder b (closed_polys v fs)
 polys_under v b fs h n f w l = outs_closed v w fs n ∙ f (opened v w) (opened_above v w (suc b) h (omega arith))
 
+-- the same at another name of the variable
+pub settled_at : (v w : ℕ) (ts xs : List Term) → v ≡ w → xs ≡ closed_terms v (terms_without v ts) → xs ≡ closed_terms w (terms_without w ts)
+settled_at v w ts xs e f = f ∙ ap (λ u. closed_terms u (terms_without u ts)) e
+
+pub polys_at : (v w : ℕ) (fs gs : List (List (List ℕ))) → v ≡ w → gs ≡ closed_polys v fs → gs ≡ closed_polys w fs
+polys_at v w fs gs e f = f ∙ ap (λ u. closed_polys u fs) e
+
 -- ---- what a sum keeps
 pub record Kept (n m : ℕ) (phase : List Term) (outs : List (List (List ℕ))) : Type 0 where
   pub phase_below : Under (n + m) phase

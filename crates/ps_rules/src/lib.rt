@@ -16,7 +16,7 @@ mod spoiling;
 pub mod steps;
 mod taking;
 
-pub use applying::{apply, rewrite};
+pub use applying::{advance, apply, rewrite};
 pub use faults::{ApplyFault, Refused};
 pub use finding::find;
 pub use steps::{Move, Step};

@@ -21,6 +21,16 @@ pub fn planned(alloc: Global, sum: &PathSum, step: Step) -> Result<BoolPoly, App
     if !applies(sum, step) {
         return Err(ApplyFault::NotARedex);
     }
+    plan(alloc, sum, step)
+}
+
+/// The polynomial of a step that applies, where it is within the limit.
+pub fn plan(alloc: Global, sum: &PathSum, step: Step) -> Result<BoolPoly, ApplyFault>
+    requires { Applies sum.now step }
+    ensures quotient { IfOk result (λ q. IsQuotient sum.now step q) }
+    ensures fits { IfOk result (λ q. FitsAt sum.now step q) }
+    ensures fault { IfErr result (λ e. Refuses sum.now step e) }
+{
     let poly = step_poly(alloc, sum, step)?;
     match first_above(sum, step, &poly) {
         Some(count) => Err(ApplyFault::Passed(Passed {

@@ -9,9 +9,10 @@ ghost use Rattle.ps_sum.specs.Outs.{values, outs_occur};
 ghost use Rattle.ps_rules.specs.Rules.{Applies, ElimApplies, HhApplies, OmegaApplies, Applied, ElimApplied, HhApplied, OmegaApplied};
 ghost use Rattle.ps_rules.specs.Plans.{IsQuotient};
 
-use super::settling::{closed_outs, closed_phase};
+use super::settling::{closed_outs, closed_phase, closed_phase_twice};
 use super::steps::Step;
 use ps_bool::BoolPoly;
+use ps_mono::Closing;
 use ps_phase::PhasePoly;
 use ps_ring::Phase;
 use ps_sum::{Outputs, PathSum, lift, subst_phase};
@@ -64,7 +65,7 @@ fn eliminated(alloc: Global, sum: PathSum, y0: u16) -> PathSum
     requires scale { negsuc 1999999997 ≤ℤ sum.k }
     ensures { ElimApplied sum y0 result }
 {
-    let v = sum.n as u16 + y0;
+    let gone = Closing::of(sum.n as u16 + y0);
     let PathSum {
         n,
         m,
@@ -76,8 +77,8 @@ fn eliminated(alloc: Global, sum: PathSum, y0: u16) -> PathSum
         n,
         m: m - 1,
         k: two_less(k),
-        phase: closed_phase(phase, v),
-        outs: closed_outs(alloc, outs, v),
+        phase: closed_phase(phase, &gone),
+        outs: closed_outs(alloc, outs, &gone),
     }
 }
 
@@ -87,8 +88,8 @@ fn quartered(alloc: Global, sum: PathSum, y0: u16, poly: &BoolPoly) -> Result<Pa
     requires scale { negsuc 1999999997 ≤ℤ sum.k }
     ensures { IfOk result (λ s. OmegaApplied sum y0 s) }
 {
-    let v = sum.n as u16 + y0;
-    let extra = closed_phase(eighth_turn(alloc, poly)?, v);
+    let gone = Closing::of(sum.n as u16 + y0);
+    let extra = closed_phase(eighth_turn(alloc, poly)?, &gone);
     let PathSum {
         n,
         m,
@@ -96,14 +97,14 @@ fn quartered(alloc: Global, sum: PathSum, y0: u16, poly: &BoolPoly) -> Result<Pa
         phase,
         outs,
     } = sum;
-    let mut phase = closed_phase(phase, v);
+    let mut phase = closed_phase(phase, &gone);
     phase.add_to(&extra)?;
     Ok(PathSum {
         n,
         m: m - 1,
         k: one_less(k),
         phase,
-        outs: closed_outs(alloc, outs, v),
+        outs: closed_outs(alloc, outs, &gone),
     })
 }
 
@@ -132,10 +133,10 @@ fn replaced(
 {
     let first = sum.n as u16 + y0;
     let second = sum.n as u16 + y1;
-    let high = first.max(second);
-    let low = first.min(second);
+    let high = Closing::of(first.max(second));
+    let low = Closing::of(first.min(second));
     let products = multiplied(alloc, &sum.phase, first, second, poly)?;
-    let extra = closed_phase(closed_phase(products, high), low);
+    let extra = closed_phase_twice(products, &high, &low);
     let PathSum {
         n,
         m,
@@ -143,7 +144,7 @@ fn replaced(
         phase,
         outs,
     } = sum;
-    let mut phase = closed_phase(closed_phase(phase, high), low);
+    let mut phase = closed_phase_twice(phase, &high, &low);
     phase.add_to(&extra)?;
     let outs = replaced_outs(outs, second, poly)?;
     Ok(PathSum {
@@ -151,7 +152,7 @@ fn replaced(
         m: m - 2,
         k: two_less(k),
         phase,
-        outs: closed_outs(alloc, closed_outs(alloc, outs, high), low),
+        outs: closed_outs(alloc, closed_outs(alloc, outs, &high), &low),
     })
 }
 
