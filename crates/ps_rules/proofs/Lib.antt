@@ -14,3 +14,4 @@ pub mod Takes
 pub mod Replaces
 pub mod Gathers
 pub mod Twice
+pub mod Parting

@@ -402,6 +402,17 @@ hh_taken S T y0 y1 q low high products old added replaced h d en em ek p = (
   },
 )
 
+-- the products as the call gives them
+pub into_value : (S : PathSum) (y0 y1 : ℕ) (q : List (List ℕ)) (into products : List Term) → into ≡ terms_without (S.n + y0) (terms_with (S.n + y1) S.phase)
+    → ((a : Assignment) → phase_value products a % 4294967296 ≡ phase_value into (with_value a (S.n + y1) (bool_value q a)) % 4294967296)
+    → (a : Assignment) → phase_value products a % 4294967296 ≡ phase_value (terms_without (S.n + y0) (terms_with (S.n + y1) S.phase)) (with_value a (S.n + y1) (bool_value q a)) % 4294967296
+into_value S y0 y1 q into products e f a = f a ∙ ap (λ (r : List Term). phase_value r (with_value a (S.n + y1) (bool_value q a)) % 4294967296) e
+
+pub into_known : (S : PathSum) (y0 y1 : ℕ) (q : List (List ℕ)) (into products : List Term) → into ≡ terms_without (S.n + y0) (terms_with (S.n + y1) S.phase)
+    → ((u : ℕ) → (phase_occurs u into && not (nat_eq u (S.n + y1))) ≡ false → occurs u q ≡ false → phase_occurs u products ≡ false)
+    → (u : ℕ) → (phase_occurs u (terms_without (S.n + y0) (terms_with (S.n + y1) S.phase)) && not (nat_eq u (S.n + y1))) ≡ false → occurs u q ≡ false → phase_occurs u products ≡ false
+into_known S y0 y1 q into products e f u h k = f u (ap (λ (r : List Term). phase_occurs u r && not (nat_eq u (S.n + y1))) e ∙ h) k
+
 -- the parts as the calls give them
 pub hh_parts : (S : PathSum) (y0 y1 : ℕ) (q : List (List ℕ)) (low high : ℕ) (products inner added outer old phase : List Term) (replaced mid outs : List (List (List ℕ))) → HhApplies S y0 y1 → high ≡ max (S.n + y0) (S.n + y1) → low ≡ min (S.n + y0) (S.n + y1)
     → ((a : Assignment) → phase_value products a % 4294967296 ≡ phase_value (terms_without (S.n + y0) (terms_with (S.n + y1) S.phase)) (with_value a (S.n + y1) (bool_value q a)) % 4294967296)

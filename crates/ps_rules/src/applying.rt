@@ -33,8 +33,8 @@ pub fn apply(alloc: Global, sum: &PathSum, step: Step) -> Result<PathSum, ApplyF
     ensures redex { IfErr result (λ e. e ≡ ApplyFault.NotARedex → Applies sum.now step → ⊥) }
     ensures passed { IfErr result (λ e. (p : Told) → e ≡ ApplyFault.Passed p → Applies sum.now step × StepPasses sum.now step p) }
 {
-    let poly = planned(alloc, sum, step)?;
-    Ok(taken(alloc, copied(alloc, sum)?, step, &poly)?)
+    let parts = planned(alloc, sum, step)?;
+    Ok(taken(alloc, copied(alloc, sum)?, step, &parts)?)
 }
 
 /// The same of a sum that is handed over, in place: where the step is refused the sum is handed back
@@ -69,7 +69,7 @@ pub fn advance(alloc: Global, sum: PathSum, step: Step) -> Result<PathSum, Refus
     ensures passed { IfErr result (λ e. (p : Told) (s : Sum) → e ≡ Refused.Passed p s → (s ≡ sum) × StepPasses sum step p) }
 {
     match plan(alloc, &sum, step) {
-        Ok(poly) => match taken(alloc, sum, step, &poly) {
+        Ok(parts) => match taken(alloc, sum, step, &parts) {
             Ok(done) => Ok(done),
             Err(_) => Err(Refused::Memory),
         },

@@ -9,6 +9,7 @@ pub mod faults;
 pub mod finding;
 mod looking;
 mod measuring;
+mod parts;
 mod planning;
 mod settling;
 mod sights;
