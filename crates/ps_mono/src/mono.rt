@@ -6,11 +6,10 @@ ghost use Rattle.std.proofs.Common.{refl};
 ghost use Rattle.ps_mono.specs.Orders.{mono_total, mono_ties, mono_partial_order};
 ghost use Rattle.std.proofs.lemmas.Cmp.{nat_list_eq_equiv};
 ghost use Rattle.ps_mono.specs.Sets.{stands, IsVarSet, mono_cmp, holds};
-ghost use Rattle.ps_mono.specs.Names.{opened};
 
 use super::bits::Bits;
 use super::select::nth_one;
-use super::words::{closed_words, count_vars, joined_words};
+use super::words::{count_vars, joined_words};
 use std::alloc::{AllocError, Global};
 use std::cmp::Ordering;
 use std::marker::Model;
@@ -20,7 +19,7 @@ use std::marker::Model;
 #[derive(Clone, Copy, Debug)]
 pub struct Mono {
     pub(crate) words: [u64; 8],
-    degree: u32,
+    pub(crate) degree: u32,
 }
 
 impl Model for Mono {
@@ -133,37 +132,6 @@ impl Mono {
             words,
             degree: self.degree - 1,
         }
-    }
-
-    /// The monomial in which the variables above `v` have names one lower. `v`, which is below 512,
-    /// does not stand in it.
-    pub fn closed(&self, v: u16) -> Mono
-        requires small { v < 512 }
-        requires free { stands v self.now ≡ false }
-        ensures members { (w : ℕ) → stands w result ≡ stands (opened v w) self.now }
-        ensures form { IsVarSet result }
-    {
-        if self.ends_below(v) {
-            return *self;
-        }
-        Mono {
-            words: closed_words(&self.words, v),
-            degree: self.degree,
-        }
-    }
-
-    // Whether no variable is above v.
-    fn ends_below(&self, v: u16) -> bool
-        requires { v < 512 }
-        ensures { IsTrue result → (w : ℕ) → v < w → stands w self.now ≡ false }
-    {
-        let place = (v / 64) as usize;
-        for i in place + 1..8 {
-            if self.words[i] != 0 {
-                return false;
-            }
-        }
-        self.words[place] >> (v % 64) <= 1
     }
 
     /// The monomial of the variables that are true.

@@ -43,7 +43,7 @@ fn words(rt: HostRuntime) -> Result<(), Fail> {
 fn names(rt: HostRuntime) -> Result<(), Fail> {
     let wide = Mono::var(511).union(&Mono::var(64)).union(&Mono::var(3));
     assert!(rt; !wide.contains(10));
-    let lower = wide.closed(10);
+    let lower = Closing::of(10).closed(&wide);
     assert_eq!(rt;
         lower,
         Mono::var(510).union(&Mono::var(63)).union(&Mono::var(3))
@@ -51,7 +51,7 @@ fn names(rt: HostRuntime) -> Result<(), Fail> {
     assert_eq!(rt; lower.degree(), 3);
     let low = Mono::var(3);
     assert!(rt; !low.contains(4));
-    assert_eq!(rt; low.closed(4), low);
+    assert_eq!(rt; Closing::of(4).closed(&low), low);
     let mut support = Bits::zero();
     support.add(&wide);
     support.add(&Mono::var(64));

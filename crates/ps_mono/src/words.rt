@@ -1,6 +1,6 @@
-ghost use Rattle.std.specs.Prelude.{◌≡◌, ℕ, ◌<◌, ◌≤◌, ◌+◌, ◌^◌, length, get_or, bit_or};
+ghost use Rattle.std.specs.Prelude.{◌≡◌, ℕ, ◌<◌, ◌≤◌, ◌+◌, ◌^◌, length, get_or, bit_or, nat_lt, true, false, ◌*◌};
 ghost use Rattle.ps_mono.specs.Sets.{is_set, has, vars, Fits8};
-ghost use Rattle.ps_mono.specs.Names.{opened};
+ghost use Rattle.ps_mono.specs.Names.{opened, IsBelow};
 
 // How many variables the words have.
 #[inline]
@@ -34,6 +34,7 @@ pub fn joined_words(xs: &[u64; 8], ys: &[u64; 8]) -> [u64; 8]
 }
 
 // The word behind word i, of which the last has none.
+#[inline]
 fn word_after(words: &[u64; 8], i: usize) -> u64
     requires fits { Fits8 words.now }
     requires inside { i < 8 }
@@ -42,32 +43,58 @@ fn word_after(words: &[u64; 8], i: usize) -> u64
     if i < 7 { words[i + 1] } else { 0 }
 }
 
-// The bits below `low` stay, bit `low` goes, and those above it are one lower; the first of the next
-// word comes in at the top.
-fn closed_word(word: u64, next: u64, low: u16) -> u64
-    requires { low < 64 }
-    ensures below { (j : ℕ) → j < low → is_set result j ≡ is_set word j }
-    ensures above { (j : ℕ) → low ≤ j → j < 63 → is_set result j ≡ is_set word (j + 1) }
-    ensures top { is_set result 63 ≡ is_set next 0 }
+// The bits of word i below bit v of all words.
+fn word_below(v: u16, i: u16) -> u64
+    requires { i < 8 }
+    ensures bits { (j : ℕ) → j < 64 → is_set result j ≡ nat_lt (64 * i + j) v }
     ensures small { result < 2 ^ 64 }
 {
-    let kept = (1u64 << low) - 1;
+    let start = 64 * i;
+    if v <= start {
+        0
+    } else if v - start >= 64 {
+        u64::MAX
+    } else {
+        (1u64 << (v - start)) - 1
+    }
+}
+
+// The words with the bits below bit v.
+pub fn below_words(v: u16) -> [u64; 8]
+    ensures fits { Fits8 result }
+    ensures bits { IsBelow result v }
+{
+    let mut out = [0; 8];
+    for i in 0..8 {
+        out[i] = word_below(v, i as u16);
+    }
+    out
+}
+
+// The bits of `kept` stay, and each other bit is the one above it; the first of the next word comes
+// in at the top.
+#[inline]
+fn closed_word(word: u64, next: u64, kept: u64) -> u64
+    ensures below { (j : ℕ) → j < 64 → is_set kept j ≡ true → is_set result j ≡ is_set word j }
+    ensures above { (j : ℕ) → j < 63 → is_set kept j ≡ false → is_set result j ≡ is_set word (j + 1) }
+    ensures top { is_set kept 63 ≡ false → is_set result 63 ≡ is_set next 0 }
+    ensures small { result < 2 ^ 64 }
+{
     let lower = (word >> 1) | (next << 63);
     (word & kept) | (lower & !kept)
 }
 
-// The words with each bit above bit v one lower; bit v goes.
-pub fn closed_words(words: &[u64; 8], v: u16) -> [u64; 8]
-    requires fits { Fits8 words.now }
-    requires small { v < 512 }
+// The words with each bit above bit v one lower, where `below` has the bits below v; bit v goes.
+#[inline]
+pub fn closed_words(words: &[u64; 8], below: &[u64; 8]) -> [u64; 8]
+    requires words { Fits8 words.now }
+    requires below { Fits8 below.now }
     ensures fits { Fits8 result }
-    ensures bits { (w : ℕ) → w < 512 → has result w ≡ has words.now (opened v w) }
+    ensures bits { (v : ℕ) → IsBelow below.now v → (w : ℕ) → w < 512 → has result w ≡ has words.now (opened v w) }
 {
-    let place = (v / 64) as usize;
-    let mut out = *words;
-    out[place] = closed_word(words[place], word_after(words, place), v % 64);
-    for i in place + 1..8 {
-        out[i] = closed_word(words[i], word_after(words, i), 0);
+    let mut out = [0; 8];
+    for i in 0..8 {
+        out[i] = closed_word(words[i], word_after(words, i), below[i]);
     }
     out
 }

@@ -7,7 +7,7 @@ ghost use Rattle.ps_normal.specs.Ends.{IsEnded, HasRisen};
 
 use super::parts::Ended;
 use ps_io::Stop;
-use ps_rules::{Refused, Step, find, rewrite};
+use ps_rules::{Refused, Step, advance, find};
 use ps_sum::PathSum;
 use std::alloc::{AllocError, Global};
 
@@ -32,7 +32,7 @@ pub fn reduce<S: Stop>(
         }
         match find(&current) {
             None => return Ok(Ended::Normal(current)),
-            Some(step) => match rewrite(alloc, current, step) {
+            Some(step) => match advance(alloc, current, step) {
                 Ok(next) => {
                     steps.push(step)?;
                     current = next;

@@ -234,7 +234,7 @@ length_polys v [] = refl
 length_polys v (f ∷ fs) = ap suc (length_polys v fs)
 
 -- ---- the loop of `close_terms`
-without_push : (v : ℕ) (ts : List Term) (t : Term) → stands v t.mono ≡ false → terms_where false v (ts ++ t ∷ []) ≡ terms_where false v ts ++ t ∷ []
+pub without_push : (v : ℕ) (ts : List Term) (t : Term) → stands v t.mono ≡ false → terms_where false v (ts ++ t ∷ []) ≡ terms_where false v ts ++ t ∷ []
 unfolding terms_where differ
 without_push v [] t s = ap (λ q. cond (differ false q) [] (t ∷ [])) s
 without_push v (x ∷ ts) t s = by (differ false (stands v x.mono)) (without_push v ts t s)
@@ -243,7 +243,7 @@ without_push v (x ∷ ts) t s = by (differ false (stands v x.mono)) (without_pus
     by true e = e
     by false e = ap (λ (r : List Term). x ∷ r) e
 
-without_skip : (v : ℕ) (ts : List Term) (t : Term) → stands v t.mono ≡ true → terms_where false v (ts ++ t ∷ []) ≡ terms_where false v ts
+pub without_skip : (v : ℕ) (ts : List Term) (t : Term) → stands v t.mono ≡ true → terms_where false v (ts ++ t ∷ []) ≡ terms_where false v ts
 unfolding terms_where differ
 without_skip v [] t s = ap (λ q. cond (differ false q) [] (t ∷ [])) s
 without_skip v (x ∷ ts) t s = by (differ false (stands v x.mono)) (without_skip v ts t s)
@@ -252,7 +252,7 @@ without_skip v (x ∷ ts) t s = by (differ false (stands v x.mono)) (without_ski
     by true e = e
     by false e = ap (λ (r : List Term). x ∷ r) e
 
-terms_push : (v : ℕ) (ts : List Term) (t : Term) → closed_terms v (ts ++ t ∷ []) ≡ closed_terms v ts ++ closed_term v t ∷ []
+pub terms_push : (v : ℕ) (ts : List Term) (t : Term) → closed_terms v (ts ++ t ∷ []) ≡ closed_terms v ts ++ closed_term v t ∷ []
 terms_push v [] t = refl
 terms_push v (x ∷ ts) t = ap (λ (r : List Term). closed_term v x ∷ r) (terms_push v ts t)
 
@@ -267,7 +267,7 @@ pub settling_start : (v : ℕ) (all : List Term) → Settling v all 0 0 all
 unfolding terms_where
 settling_start v all = record { size = refl; low = omega arith; front = refl; rest = λ k d h. refl }
 
-more_terms : (v : ℕ) (all xs : List Term) (i kept : ℕ) (t : Term) → Settling v all i kept xs → i < length xs → t ≡ get_or xs i t → take (i + 1) all ≡ take i all ++ t ∷ []
+pub more_terms : (v : ℕ) (all xs : List Term) (i kept : ℕ) (t : Term) → Settling v all i kept xs → i < length xs → t ≡ get_or xs i t → take (i + 1) all ≡ take i all ++ t ∷ []
 more_terms v all xs i kept t s l e =
     let la : i < length all = omega (arith, s.size) in
     take_more all i t la ∙ ap (λ (r : Term). take i all ++ r ∷ []) (sym (e ∙ s.rest i t (omega arith)))

@@ -13,3 +13,5 @@ pub mod Quotients
 pub mod Takes
 pub mod Replaces
 pub mod Gathers
+pub mod Twice
+pub mod Parting

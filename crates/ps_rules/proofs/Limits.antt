@@ -6,7 +6,7 @@ use Rattle.ps_mono.specs.Sets.{stands}
 use Rattle.ps_mono.specs.Truth.{differ}
 use Rattle.ps_phase.specs.declared.terms.Term.{Term}
 use Rattle.ps_phase.specs.Adding.{terms_where, terms_without}
-use Rattle.ps_sum.specs.Counts.{binomial, subsets, raw_term, raw_phase}
+use Rattle.ps_sum.specs.Counts.{binomial, subsets, raw_term}
 use Rattle.ps_sum.proofs.Counting.{Power, raw_is, binomial_zero}
 use Rattle.ps_rules.specs.Plans.{IsFirstTold}
 use Rattle.ps_bool.proofs.Unique.{one_form}
@@ -65,8 +65,8 @@ pub none_push : (f : List (List ℕ) → ℕ) (gs : List (List (List ℕ))) (g :
 none_push f [] g h p = (h, tt)
 none_push f (x ∷ gs) g h p = (p.0, none_push f gs g h p.1)
 
-pub none_more : (f : List (List ℕ) → ℕ) (gs : List (List (List ℕ))) (i : ℕ) (g : List (List ℕ)) (n : ℕ) → i < length gs → g ≡ get_or gs i g → n ≡ min (f g) CAP → n ≤ 65536 → NoneAbove (map f (take i gs)) → NoneAbove (map f (take (i + 1) gs))
-none_more f gs i g n h e en l p = subst (λ (r : List (List (List ℕ))). NoneAbove (map f r)) (sym (take_more gs i g h ∙ ap (λ (r : List (List ℕ)). take i gs ++ r ∷ []) (sym e))) (none_push f (take i gs) g (omega arith) p)
+pub none_short : (f : List (List ℕ) → ℕ) (gs : List (List (List ℕ))) (i : ℕ) (g : List (List ℕ)) → i < length gs → g ≡ get_or gs i g → f g ≤ 65536 → NoneAbove (map f (take i gs)) → NoneAbove (map f (take (i + 1) gs))
+none_short f gs i g h e l p = subst (λ (r : List (List (List ℕ))). NoneAbove (map f r)) (sym (take_more gs i g h ∙ ap (λ (r : List (List ℕ)). take i gs ++ r ∷ []) (sym e))) (none_push f (take i gs) g l p)
 
 pub above_at : (f : List (List ℕ) → ℕ) (gs : List (List (List ℕ))) (i : ℕ) (g : List (List ℕ)) (n : ℕ) → i < length gs → g ≡ get_or gs i g → n ≡ min (f g) CAP → 65536 < n → NoneAbove (map f (take i gs)) → IsFirstTold (map f gs) n
 above_at f gs i g n h e en l p = (f g, first gs i h e p, en)
@@ -98,32 +98,6 @@ without_push v (x ∷ ts) t = by (differ false (stands v x.mono)) (without_push 
 
 without_more : (v : ℕ) (ts : List Term) (i : ℕ) (t : Term) → i < length ts → t ≡ get_or ts i t → terms_where false v (take (i + 1) ts) ≡ terms_where false v (take i ts) ++ cond (stands v t.mono) [] (t ∷ [])
 without_more v ts i t h e = ap (terms_where false v) (take_more ts i t h ∙ ap (λ (r : Term). take i ts ++ r ∷ []) (sym e)) ∙ without_push v (take i ts) t
-
-raw_append : (v t : ℕ) (xs ys : List Term) → raw_phase v t (xs ++ ys) ≡ raw_phase v t xs + raw_phase v t ys
-unfolding raw_phase
-raw_append v t [] ys = omega arith
-raw_append v t (x ∷ xs) ys = omega (arith, raw_append v t xs ys)
-
-one_raw : (v t : ℕ) (x : Term) (b : Bool) → raw_phase v t (cond b [] (x ∷ [])) ≡ cond b 0 (cond (stands v x.mono) (raw_term x.phase t) 1)
-unfolding raw_phase
-one_raw v t x true = refl
-one_raw v t x false = omega arith
-
-pub count_start : (v w t : ℕ) (ts : List Term) → 0 ≡ min (raw_phase v t (terms_without w (take 0 ts))) CAP
-unfolding raw_phase terms_where
-count_start v w t ts = omega arith
-
-pub count_more : (v w t : ℕ) (ts : List Term) (i n m k : ℕ) (x : Term) → i < length ts → x ≡ get_or ts i x → m ≡ min (cond (stands w x.mono) 0 (cond (stands v x.mono) (raw_term x.phase t) 1)) CAP → k ≡ min (n + m) CAP
-    → n ≡ min (raw_phase v t (terms_without w (take i ts))) CAP → k ≡ min (raw_phase v t (terms_without w (take (i + 1) ts))) CAP
-count_more v w t ts i n m k x h e em ek en =
-    let q = ap (raw_phase v t) (without_more w ts i x h e) ∙ raw_append v t (terms_without w (take i ts)) _ ∙ ap (λ r. raw_phase v t (terms_without w (take i ts)) + r) (one_raw v t x (stands w x.mono)) in
-    ek ∙ joined _ _ n m en em ∙ ap (λ r. min r CAP) (sym q)
-  where
-    joined : (a b n m : ℕ) → n ≡ min a CAP → m ≡ min b CAP → min (n + m) CAP ≡ min (a + b) CAP
-    joined a b n m e f = omega arith
-
-pub count_end : (v w t : ℕ) (ts : List Term) (i n : ℕ) → length ts ≤ i → n ≡ min (raw_phase v t (terms_without w (take i ts))) CAP → n ≡ min (raw_phase v t (terms_without w ts)) CAP
-count_end v w t ts i n h e = e ∙ ap (λ (r : List Term). min (raw_phase v t (terms_without w r)) CAP) (take_all i ts h)
 
 pub kept_start : (w : ℕ) (ts : List Term) → 0 ≡ length (terms_without w (take 0 ts))
 unfolding terms_where

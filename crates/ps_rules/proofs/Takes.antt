@@ -100,6 +100,13 @@ OutsUnder b fs = (u : ℕ) → b ≤ u → outs_occur u fs ≡ false
 pub polys_under : (v b : ℕ) (fs : List (List (List ℕ))) → v < suc b → outs_occur v fs ≡ false → OutsUnder (suc b) fs → OutsUnder b (closed_polys v fs)
 polys_under v b fs h n f w l = outs_closed v w fs n ∙ f (opened v w) (opened_above v w (suc b) h (omega arith))
 
+-- the same at another name of the variable
+pub settled_at : (v w : ℕ) (ts xs : List Term) → v ≡ w → xs ≡ closed_terms v (terms_without v ts) → xs ≡ closed_terms w (terms_without w ts)
+settled_at v w ts xs e f = f ∙ ap (λ u. closed_terms u (terms_without u ts)) e
+
+pub polys_at : (v w : ℕ) (fs gs : List (List (List ℕ))) → v ≡ w → gs ≡ closed_polys v fs → gs ≡ closed_polys w fs
+polys_at v w fs gs e f = f ∙ ap (λ u. closed_polys u fs) e
+
 -- ---- what a sum keeps
 pub record Kept (n m : ℕ) (phase : List Term) (outs : List (List (List ℕ))) : Type 0 where
   pub phase_below : Under (n + m) phase
@@ -394,6 +401,17 @@ hh_taken S T y0 y1 q low high products old added replaced h d en em ek p = (
         ∙ ap (λ c. values S.outs (with_value a w c)) (d.poly.value a);
   },
 )
+
+-- the products as the call gives them
+pub into_value : (S : PathSum) (y0 y1 : ℕ) (q : List (List ℕ)) (into products : List Term) → into ≡ terms_without (S.n + y0) (terms_with (S.n + y1) S.phase)
+    → ((a : Assignment) → phase_value products a % 4294967296 ≡ phase_value into (with_value a (S.n + y1) (bool_value q a)) % 4294967296)
+    → (a : Assignment) → phase_value products a % 4294967296 ≡ phase_value (terms_without (S.n + y0) (terms_with (S.n + y1) S.phase)) (with_value a (S.n + y1) (bool_value q a)) % 4294967296
+into_value S y0 y1 q into products e f a = f a ∙ ap (λ (r : List Term). phase_value r (with_value a (S.n + y1) (bool_value q a)) % 4294967296) e
+
+pub into_known : (S : PathSum) (y0 y1 : ℕ) (q : List (List ℕ)) (into products : List Term) → into ≡ terms_without (S.n + y0) (terms_with (S.n + y1) S.phase)
+    → ((u : ℕ) → (phase_occurs u into && not (nat_eq u (S.n + y1))) ≡ false → occurs u q ≡ false → phase_occurs u products ≡ false)
+    → (u : ℕ) → (phase_occurs u (terms_without (S.n + y0) (terms_with (S.n + y1) S.phase)) && not (nat_eq u (S.n + y1))) ≡ false → occurs u q ≡ false → phase_occurs u products ≡ false
+into_known S y0 y1 q into products e f u h k = f u (ap (λ (r : List Term). phase_occurs u r && not (nat_eq u (S.n + y1))) e ∙ h) k
 
 -- the parts as the calls give them
 pub hh_parts : (S : PathSum) (y0 y1 : ℕ) (q : List (List ℕ)) (low high : ℕ) (products inner added outer old phase : List Term) (replaced mid outs : List (List (List ℕ))) → HhApplies S y0 y1 → high ≡ max (S.n + y0) (S.n + y1) → low ≡ min (S.n + y0) (S.n + y1)

@@ -5,6 +5,7 @@ use Rattle.ps_bool.specs.Polys.{bool_value, occurs}
 use Rattle.ps_sum.specs.Forms.{AllPolys}
 use Rattle.ps_sum.specs.Outs.{values, outs_occur}
 use Rattle.ps_phase.specs.declared.terms.Term.{Term}
+use Rattle.ps_phase.specs.Adding.{terms_without}
 use Rattle.ps_sum.specs.Names.{closed}
 
 -- the monomial with the names above v one lower
@@ -16,6 +17,10 @@ closed_term v t = record { mono = closed_mono v t.mono; phase = t.phase }
 
 abbrev pub closed_terms : ℕ → List Term → List Term
 closed_terms v ts = map (λ t. closed_term v t) ts
+
+-- the terms without v, closed up
+abbrev pub settled_terms : ℕ → List Term → List Term
+settled_terms v ts = closed_terms v (terms_without v ts)
 
 abbrev pub closed_monos : ℕ → List (List ℕ) → List (List ℕ)
 closed_monos v f = map (λ m. closed_mono v m) f

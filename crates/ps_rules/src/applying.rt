@@ -6,8 +6,9 @@ ghost use Rattle.ps_sum.specs.declared.faults.Passed.{Passed as Told};
 ghost use Rattle.ps_sum.specs.declared.sums.PathSum.{PathSum as Sum};
 ghost use Rattle.ps_rules.specs.Rules.{Applies, Applied, StepFits, StepPasses};
 
+use super::checking::applies;
 use super::faults::{ApplyFault, Refused};
-use super::planning::planned;
+use super::planning::{plan, planned};
 use super::steps::Step;
 use super::taking::taken;
 use ps_sum::{Outputs, PathSum};
@@ -32,8 +33,8 @@ pub fn apply(alloc: Global, sum: &PathSum, step: Step) -> Result<PathSum, ApplyF
     ensures redex { IfErr result (λ e. e ≡ ApplyFault.NotARedex → Applies sum.now step → ⊥) }
     ensures passed { IfErr result (λ e. (p : Told) → e ≡ ApplyFault.Passed p → Applies sum.now step × StepPasses sum.now step p) }
 {
-    let poly = planned(alloc, sum, step)?;
-    Ok(taken(alloc, copied(alloc, sum)?, step, &poly)?)
+    let parts = planned(alloc, sum, step)?;
+    Ok(taken(alloc, copied(alloc, sum)?, step, &parts)?)
 }
 
 /// The same of a sum that is handed over, in place: where the step is refused the sum is handed back
@@ -49,8 +50,26 @@ pub fn rewrite(alloc: Global, sum: PathSum, step: Step) -> Result<PathSum, Refus
     ensures redex { IfErr result (λ e. (s : Sum) → e ≡ Refused.NotARedex s → (s ≡ sum) × (Applies sum step → ⊥)) }
     ensures passed { IfErr result (λ e. (p : Told) (s : Sum) → e ≡ Refused.Passed p s → (s ≡ sum) × Applies sum step × StepPasses sum step p) }
 {
-    match planned(alloc, &sum, step) {
-        Ok(poly) => match taken(alloc, sum, step, &poly) {
+    if !applies(&sum, step) {
+        return Err(Refused::NotARedex(sum));
+    }
+    advance(alloc, sum, step)
+}
+
+/// The same of a step that is known to apply, which is not looked at again.
+pub fn advance(alloc: Global, sum: PathSum, step: Step) -> Result<PathSum, Refused>
+    requires scale { negsuc 1999999997 ≤ℤ sum.k }
+    requires applies { Applies sum step }
+    ensures sum { IfOk result (λ s. Applied sum step s) }
+    ensures fits { IfOk result (λ s. StepFits sum step) }
+    ensures kept { IfOk result (λ s. (x z : Truths) → length x ≡ sum.n → SameNumber (path_values sum) (path_values s) x z) }
+    ensures falls { IfOk result (λ s. s.m < sum.m) }
+    ensures width { IfOk result (λ s. length s.outs ≡ length sum.outs) }
+    ensures redex { IfErr result (λ e. (s : Sum) → e ≡ Refused.NotARedex s → ⊥) }
+    ensures passed { IfErr result (λ e. (p : Told) (s : Sum) → e ≡ Refused.Passed p s → (s ≡ sum) × StepPasses sum step p) }
+{
+    match plan(alloc, &sum, step) {
+        Ok(parts) => match taken(alloc, sum, step, &parts) {
             Ok(done) => Ok(done),
             Err(_) => Err(Refused::Memory),
         },

@@ -78,8 +78,18 @@ pub fn sight_of(sum: &PathSum, y: u16) -> Sight
     requires { y < sum.now.m }
     ensures { Seen (sum.now.n + y) sum.now.outs sum.now.phase result }
 {
+    let spoken = is_spoken(sum.outs.polys(), sum.n as u16 + y);
+    known_sight(sum, y, spoken)
+}
+
+// The same where it is known whether the variable stands in an output.
+pub fn known_sight(sum: &PathSum, y: u16, spoken: bool) -> Sight
+    requires inside { y < sum.now.m }
+    requires outputs { spoken ≡ outs_occur (sum.now.n + y) sum.now.outs }
+    ensures { Seen (sum.now.n + y) sum.now.outs sum.now.phase result }
+{
     let v = sum.n as u16 + y;
-    let mut sight = unseen(spoken(sum.outs.polys(), v));
+    let mut sight = unseen(spoken);
     for term in sum.phase.terms() {
         if term.mono.contains(v) {
             sight = seen(&sight, term);
@@ -89,7 +99,7 @@ pub fn sight_of(sum: &PathSum, y: u16) -> Sight
 }
 
 // Whether `v` stands in an output.
-fn spoken(outs: &[BoolPoly], v: u16) -> bool
+fn is_spoken(outs: &[BoolPoly], v: u16) -> bool
     requires { v < 512 }
     ensures { result ≡ outs_occur v outs.now }
 {

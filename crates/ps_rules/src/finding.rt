@@ -2,7 +2,7 @@ ghost use Rattle.std.specs.Prelude.{◌≡◌, ℕ, ◌<◌, ◌≤◌, ◌+◌,
 ghost use Rattle.ps_rules.specs.Rules.{FirstStep, IsIrreducible};
 ghost use Rattle.ps_rules.specs.Sights.{Seen, IsFresh, EachSight, NoneFrom, FirstFrom};
 
-use super::checking::sight_of;
+use super::checking::known_sight;
 use super::choosing::step_at;
 use super::looking::look;
 use super::sights::{Sight, unseen};
@@ -35,7 +35,7 @@ pub fn find(sum: &PathSum) -> Option<Step>
             return first_of_all(sum);
         }
         if !spoilt.get(sum.n as u16 + y) {
-            let sight = sight_of(sum, y);
+            let sight = known_sight(sum, y, false);
             match step_at(sum, y, &sight) {
                 Some(step) => return Some(step),
                 None => {}

@@ -9,6 +9,7 @@ pub mod faults;
 pub mod finding;
 mod looking;
 mod measuring;
+mod parts;
 mod planning;
 mod settling;
 mod sights;
@@ -16,7 +17,7 @@ mod spoiling;
 pub mod steps;
 mod taking;
 
-pub use applying::{apply, rewrite};
+pub use applying::{advance, apply, rewrite};
 pub use faults::{ApplyFault, Refused};
 pub use finding::find;
 pub use steps::{Move, Step};

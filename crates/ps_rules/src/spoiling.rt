@@ -1,6 +1,6 @@
 //! The variables that no step takes away, all at once.
 
-ghost use Rattle.std.specs.Prelude.{◌≡◌, ℕ, true, ◌||◌, IsTrue};
+ghost use Rattle.std.specs.Prelude.{◌≡◌, ℕ, true, false, ◌||◌, IsTrue};
 ghost use Rattle.ps_mono.specs.Sets.{stands};
 ghost use Rattle.ps_bool.specs.Polys.{occurs};
 ghost use Rattle.ps_sum.specs.Outs.{outs_occur};
@@ -14,7 +14,8 @@ use ps_sum::PathSum;
 
 // Variables that stand in an output, or in a term that no step at them allows.
 pub fn spoilt(sum: &PathSum) -> Bits
-    ensures { (v : ℕ) → stands v result ≡ true → IsSpoilt v sum.now.outs sum.now.phase }
+    ensures spoilt { (v : ℕ) → stands v result ≡ true → IsSpoilt v sum.now.outs sum.now.phase }
+    ensures silent { (v : ℕ) → stands v result ≡ false → outs_occur v sum.now.outs ≡ false }
 {
     let mut out = spoken_in(sum.outs.polys());
     for term in sum.phase.terms() {
@@ -35,7 +36,7 @@ fn spoils(term: &Term) -> bool
 
 // The variables that stand in these outputs.
 fn spoken_in(outs: &[BoolPoly]) -> Bits
-    ensures { (v : ℕ) → stands v result ≡ true → outs_occur v outs.now ≡ true }
+    ensures { (v : ℕ) → stands v result ≡ outs_occur v outs.now }
 {
     let mut out = Bits::zero();
     for poly in outs {
@@ -46,7 +47,7 @@ fn spoken_in(outs: &[BoolPoly]) -> Bits
 
 // The variables of the polynomial beside those that are there.
 fn add_poly(out: &mut Bits, poly: &BoolPoly)
-    ensures { (v : ℕ) → stands v out.new ≡ true → (stands v out.old || occurs v poly.now) ≡ true }
+    ensures { (v : ℕ) → stands v out.new ≡ (stands v out.old || occurs v poly.now) }
 {
     for mono in poly.monos() {
         out.add(mono);

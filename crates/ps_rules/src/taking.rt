@@ -1,17 +1,18 @@
 ghost use Rattle.std.specs.Prelude.{◌≡◌, ℕ, ◌<◌, ◌+◌, ◌%◌, Bool, true, false, not, ◌&&◌, nat_eq, negsuc, pos, ◌+ℤ◌, ◌≤ℤ◌, length, IfOk, OnOk};
 ghost use Rattle.ps_mono.specs.Truth.{times, with_value};
-ghost use Rattle.ps_phase.specs.Adding.{terms_with, terms_without};
 ghost use Rattle.ps_phase.specs.Phases.{phase_value, phase_occurs, IsPhasePoly};
 ghost use Rattle.ps_rules.specs.Closing.{IsReplaced};
 ghost use Rattle.ps_bool.specs.Polys.{bool_value, occurs};
 ghost use Rattle.ps_sum.specs.Forms.{AllPolys};
 ghost use Rattle.ps_sum.specs.Outs.{values, outs_occur};
 ghost use Rattle.ps_rules.specs.Rules.{Applies, ElimApplies, HhApplies, OmegaApplies, Applied, ElimApplied, HhApplied, OmegaApplied};
-ghost use Rattle.ps_rules.specs.Plans.{IsQuotient};
+ghost use Rattle.ps_rules.specs.Plans.{IsQuotient, IsInto};
 
-use super::settling::{closed_outs, closed_phase};
+use super::parts::Parts;
+use super::settling::{closed_outs, closed_phase, closed_phase_twice};
 use super::steps::Step;
 use ps_bool::BoolPoly;
+use ps_mono::Closing;
 use ps_phase::PhasePoly;
 use ps_ring::Phase;
 use ps_sum::{Outputs, PathSum, lift, subst_phase};
@@ -22,24 +23,20 @@ const EIGHTH: u32 = 536870912;
 
 const THREE_QUARTERS: u32 = 3221225472;
 
-/// The sum after a step that applies, where `poly` is its polynomial. It works in place: only the
+/// The sum after a step that applies, where these are its parts. It works in place: only the
 /// terms with a variable of the step are taken out and multiplied, and names close up as they stand.
 /// `AllocError` is want of memory.
-pub fn taken(
-    alloc: Global,
-    sum: PathSum,
-    step: Step,
-    poly: &BoolPoly,
-) -> Result<PathSum, AllocError>
+pub fn taken(alloc: Global, sum: PathSum, step: Step, parts: &Parts) -> Result<PathSum, AllocError>
     requires applies { Applies sum step }
-    requires quotient { IsQuotient sum step poly.now }
+    requires quotient { IsQuotient sum step parts.now.poly }
+    requires into { IsInto sum step parts.now.into }
     requires scale { negsuc 1999999997 ≤ℤ sum.k }
     ensures { IfOk result (λ s. Applied sum step s) }
 {
     match step {
         Step::Elim { y0 } => Ok(eliminated(alloc, sum, y0)),
-        Step::Hh { y0, y1 } => replaced(alloc, sum, y0, y1, poly),
-        Step::Omega { y0 } => quartered(alloc, sum, y0, poly),
+        Step::Hh { y0, y1 } => replaced(alloc, sum, y0, y1, parts),
+        Step::Omega { y0 } => quartered(alloc, sum, y0, &parts.poly),
     }
 }
 
@@ -64,7 +61,7 @@ fn eliminated(alloc: Global, sum: PathSum, y0: u16) -> PathSum
     requires scale { negsuc 1999999997 ≤ℤ sum.k }
     ensures { ElimApplied sum y0 result }
 {
-    let v = sum.n as u16 + y0;
+    let gone = Closing::of(sum.n as u16 + y0);
     let PathSum {
         n,
         m,
@@ -76,8 +73,8 @@ fn eliminated(alloc: Global, sum: PathSum, y0: u16) -> PathSum
         n,
         m: m - 1,
         k: two_less(k),
-        phase: closed_phase(phase, v),
-        outs: closed_outs(alloc, outs, v),
+        phase: closed_phase(phase, &gone),
+        outs: closed_outs(alloc, outs, &gone),
     }
 }
 
@@ -87,8 +84,8 @@ fn quartered(alloc: Global, sum: PathSum, y0: u16, poly: &BoolPoly) -> Result<Pa
     requires scale { negsuc 1999999997 ≤ℤ sum.k }
     ensures { IfOk result (λ s. OmegaApplied sum y0 s) }
 {
-    let v = sum.n as u16 + y0;
-    let extra = closed_phase(eighth_turn(alloc, poly)?, v);
+    let gone = Closing::of(sum.n as u16 + y0);
+    let extra = closed_phase(eighth_turn(alloc, poly)?, &gone);
     let PathSum {
         n,
         m,
@@ -96,14 +93,14 @@ fn quartered(alloc: Global, sum: PathSum, y0: u16, poly: &BoolPoly) -> Result<Pa
         phase,
         outs,
     } = sum;
-    let mut phase = closed_phase(phase, v);
+    let mut phase = closed_phase(phase, &gone);
     phase.add_to(&extra)?;
     Ok(PathSum {
         n,
         m: m - 1,
         k: one_less(k),
         phase,
-        outs: closed_outs(alloc, outs, v),
+        outs: closed_outs(alloc, outs, &gone),
     })
 }
 
@@ -123,19 +120,21 @@ fn replaced(
     sum: PathSum,
     y0: u16,
     y1: u16,
-    poly: &BoolPoly,
+    parts: &Parts,
 ) -> Result<PathSum, AllocError>
     requires applies { HhApplies sum y0 y1 }
-    requires quotient { IsQuotient sum (Step.Hh y0 y1) poly.now }
+    requires quotient { IsQuotient sum (Step.Hh y0 y1) parts.now.poly }
+    requires into { IsInto sum (Step.Hh y0 y1) parts.now.into }
     requires scale { negsuc 1999999997 ≤ℤ sum.k }
     ensures { IfOk result (λ s. HhApplied sum y0 y1 s) }
 {
     let first = sum.n as u16 + y0;
     let second = sum.n as u16 + y1;
-    let high = first.max(second);
-    let low = first.min(second);
-    let products = multiplied(alloc, &sum.phase, first, second, poly)?;
-    let extra = closed_phase(closed_phase(products, high), low);
+    let high = Closing::of(first.max(second));
+    let low = Closing::of(first.min(second));
+    let poly = &parts.poly;
+    let products = multiplied(alloc, &parts.into, second, poly)?;
+    let extra = closed_phase_twice(products, &high, &low);
     let PathSum {
         n,
         m,
@@ -143,7 +142,7 @@ fn replaced(
         phase,
         outs,
     } = sum;
-    let mut phase = closed_phase(closed_phase(phase, high), low);
+    let mut phase = closed_phase_twice(phase, &high, &low);
     phase.add_to(&extra)?;
     let outs = replaced_outs(outs, second, poly)?;
     Ok(PathSum {
@@ -151,26 +150,23 @@ fn replaced(
         m: m - 2,
         k: two_less(k),
         phase,
-        outs: closed_outs(alloc, closed_outs(alloc, outs, high), low),
+        outs: closed_outs(alloc, closed_outs(alloc, outs, &high), &low),
     })
 }
 
-// The terms with `second` and without `first`, with the polynomial in place of `second`.
+// The terms with the polynomial in place of v.
 fn multiplied(
     alloc: Global,
-    phase: &PhasePoly,
-    first: u16,
-    second: u16,
+    terms: &PhasePoly,
+    v: u16,
     poly: &BoolPoly,
 ) -> Result<PhasePoly, AllocError>
-    requires left { first < 512 }
-    requires right { second < 512 }
-    ensures value { IfOk result (λ p. (a : ℕ → Bool) → phase_value p a % 4294967296 ≡ phase_value (terms_without first (terms_with second phase.now)) (with_value a second (bool_value poly.now a)) % 4294967296) }
-    ensures variables { IfOk result (λ p. (u : ℕ) → (phase_occurs u (terms_without first (terms_with second phase.now)) && not (nat_eq u second)) ≡ false → occurs u poly.now ≡ false → phase_occurs u p ≡ false) }
+    requires { v < 512 }
+    ensures value { IfOk result (λ p. (a : ℕ → Bool) → phase_value p a % 4294967296 ≡ phase_value terms.now (with_value a v (bool_value poly.now a)) % 4294967296) }
+    ensures variables { IfOk result (λ p. (u : ℕ) → (phase_occurs u terms.now && not (nat_eq u v)) ≡ false → occurs u poly.now ≡ false → phase_occurs u p ≡ false) }
     ensures form { IfOk result (λ p. IsPhasePoly p) }
 {
-    let with = phase.terms_with(second)?;
-    subst_phase(alloc, &with.terms_without(first)?, second, poly)
+    subst_phase(alloc, terms, v, poly)
 }
 
 // The outputs with the polynomial in place of v.

@@ -9,7 +9,7 @@ loop-y-preserved c = elim c.if-not-get.branch [
   | then-not-get+in-None w ↦ (none_more c.args.sum.now 0 c.loop-y.y (c.loop-y.y + 1) refl c.loop-y.invariant.0 w.in-None.ensures, omega (arith, c.loop-y.invariant.1, c.if-tried-eq-FEW.false, w.tried-is))
   | else-not-get w ↦ (
     none_more c.args.sum.now 0 c.loop-y.y (c.loop-y.y + 1) refl c.loop-y.invariant.0
-        (spoilt_none c.args.sum.now c.loop-y.y (c.spoilt-spoilt.ensures (c.args.sum.now.n + c.loop-y.y) (sym c.get.ensures ∙ w.if-not-get.false))),
+        (spoilt_none c.args.sum.now c.loop-y.y (c.spoilt-spoilt.ensures.spoilt (c.args.sum.now.n + c.loop-y.y) (sym c.get.ensures ∙ w.if-not-get.false))),
     omega (arith, c.loop-y.invariant.1, w.tried-is),
   )
 ]

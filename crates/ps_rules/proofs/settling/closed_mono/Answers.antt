@@ -5,5 +5,5 @@ use Rattle.ps_rules.proofs.Closes.{stands_closed, set_closed}
 use Rattle.ps_rules.proofs.settling.closed_mono.Goals as goal
 
 pub returns : goal.returns
-returns c = same_set c.closed.result (closed_mono c.args.v c.args.mono.now) c.closed.ensures.form (set_closed c.args.v c.args.mono.now c.requires.free c.known.ensures)
-    (λ w. c.closed.ensures.members w ∙ sym (stands_closed c.args.v w c.args.mono.now c.requires.free))
+returns c = same_set c.closed.result (closed_mono c.args.gone.now c.args.mono.now) c.closed.ensures.form (set_closed c.args.gone.now c.args.mono.now c.requires c.known.ensures)
+    (λ w. c.closed.ensures.members w ∙ sym (stands_closed c.args.gone.now w c.args.mono.now c.requires))

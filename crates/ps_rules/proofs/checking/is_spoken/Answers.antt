@@ -1,5 +1,5 @@
 use Rattle.ps_rules.proofs.Windows.{spoken_here, spoken_next, spoken_end}
-use Rattle.ps_rules.proofs.checking.spoken.Goals as goal
+use Rattle.ps_rules.proofs.checking.is_spoken.Goals as goal
 
 pub returns-then-contains : goal.returns-then-contains
 returns-then-contains c = spoken_here c.args.v c.args.outs.now c.loop-poly.poly-index c.poly-item.result c.contains.result c.loop-poly-test.true c.poly-item.is c.contains.ensures c.if-contains.true c.loop-poly.invariant

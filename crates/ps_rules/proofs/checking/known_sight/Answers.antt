@@ -1,8 +1,8 @@
 use Rattle.std.proofs.Common.{◌+◌, sym, ◌∙◌, subst}
 use Rattle.ps_phase.specs.Phases.{IsPhasePoly}
 use Rattle.ps_rules.proofs.Windows.{sight_more, sight_skip}
-use Rattle.ps_rules.proofs.checking.sight_of.Goals as goal
-use Rattle.ps_rules.proofs.checking.sight_of.Goals.{then-contains, else-contains}
+use Rattle.ps_rules.proofs.checking.known_sight.Goals as goal
+use Rattle.ps_rules.proofs.checking.known_sight.Goals.{then-contains, else-contains}
 
 pub loop-term-preserved : goal.loop-term-preserved
 loop-term-preserved c = elim c.if-contains.branch [
