@@ -5,3 +5,4 @@ pub mod Chains
 pub mod Merging
 pub mod Only
 pub mod Pairs
+pub mod Touching

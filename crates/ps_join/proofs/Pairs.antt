@@ -86,7 +86,7 @@ second_after w x y n p q = record {
 }
 
 -- the d-th of the polynomials in place of the other variable
-half_chain : (fs : List (List (List ℕ))) (v w d : ℕ) (x y : List (List ℕ)) → d < length fs → w ≡ v + d → w < 512 → y ≡ get_or fs d y → AllPolys fs → ((u : ℕ) → v ≤ u → outs_occur u fs ≡ false)
+pub half_chain : (fs : List (List (List ℕ))) (v w d : ℕ) (x y : List (List ℕ)) → d < length fs → w ≡ v + d → w < 512 → y ≡ get_or fs d y → AllPolys fs → ((u : ℕ) → v ≤ u → outs_occur u fs ≡ false)
     → IsPoly x → ((u : ℕ) → v ≤ u → occurs u x ≡ false) → length x < 32768 → length y < 32768 → Chain (List (List ℕ)) raw_bool BoolAfter v fs (merge x ((w ∷ []) ∷ [])) None
 unfolding outs_occur
 half_chain [] v w d x y h e z g p o q n l k = absurd (omega arith)
@@ -202,7 +202,7 @@ pair_part n m1 m2 i j fs x y g q t w e e' o p s u =
     read i x a l e h = ap (λ (z : List (List ℕ)). bool_value z a) e ∙ get_value fs i x a l ∙ sym (h i (omega (arith, w))) ∙ ap a (name_front n m1 m2 i (n + (m1 + m2) + i) (omega (arith, w)) refl)
 
 -- ---- which polynomials are such
-one_variable : (m : List ℕ) (v : ℕ) → length m ≡ 1 → v ≡ get_or m 0 0 → m ≡ v ∷ []
+pub one_variable : (m : List ℕ) (v : ℕ) → length m ≡ 1 → v ≡ get_or m 0 0 → m ≡ v ∷ []
 one_variable [] v l e = absurd (omega arith)
 one_variable (a ∷ []) v l e = ap (λ (x : ℕ). x ∷ []) (sym e)
 one_variable (a ∷ b ∷ m) v l e = absurd (omega arith)

@@ -5,3 +5,4 @@ pub mod OntoFaults
 pub mod Naming
 pub mod Parts
 pub mod Laws
+pub mod Changing

@@ -1,6 +1,9 @@
 //! The path sums of primitive gates, and path sums one after the other.
 #![tactic(auto)]
 
+mod changes;
+pub mod gates;
+mod gating;
 pub mod joins;
 pub mod laws;
 pub mod leaves;
@@ -8,6 +11,8 @@ mod naming;
 pub mod onto_fault;
 mod replacing;
 
+pub use gates::Gate;
+pub use gating::join_gate;
 pub use joins::{join, join_onto};
 pub use leaves::{identity, leaf};
 pub use onto_fault::OntoFault;

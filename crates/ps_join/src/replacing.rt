@@ -163,7 +163,7 @@ fn replaced_bool(
 }
 
 // Whether the output is input `i` alone.
-fn is_input(poly: &BoolPoly, i: u16) -> bool
+pub(crate) fn is_input(poly: &BoolPoly, i: u16) -> bool
     requires { i < 512 }
     ensures { IsTrue result ↔ (poly.now ≡ (i ∷ []) ∷ []) }
 {
@@ -171,7 +171,7 @@ fn is_input(poly: &BoolPoly, i: u16) -> bool
 }
 
 // The two inputs below `n` whose sum the polynomial is, the lesser first.
-fn two_inputs(poly: &BoolPoly, n: u16) -> Option<(u16, u16)>
+pub(crate) fn two_inputs(poly: &BoolPoly, n: u16) -> Option<(u16, u16)>
     ensures { IfSome result (λ p. IsPair n poly.now p.0 p.1) }
 {
     if poly.count() != 2 {

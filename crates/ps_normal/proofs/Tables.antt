@@ -37,7 +37,7 @@ table_set n (s ∷ slots) zero b t w = (w, t.1)
 table_set n (s ∷ slots) (suc i) b t w = (t.0, table_set n slots i b t.1 w)
 
 -- ---- what is kept
-pub kept_made : (n : ℕ) (g : Prim) (p : Part) (T : PathSum) (ss : List Step) (k : Kept) → p ≡ part.Sum T → k.sum.value ≡ T → k.steps.items ≡ ss → IsReducedLeaf n g ss p → UsablePart n 1 p → IsKept n g k
+pub kept_made : (n : ℕ) (g : Prim) (p : Part) (T : PathSum) (ss : List Step) (k : Kept) → p ≡ part.Sum T → k.gate.sum.value ≡ T → k.steps.items ≡ ss → IsReducedLeaf n g ss p → UsablePart n 1 p → IsKept n g k
 kept_made n g p T ss k ep es eq r u =
     let q : IsReducedLeaf n g ss (part.Sum T) = subst (IsReducedLeaf n g ss) ep r in
     record {
@@ -47,10 +47,7 @@ kept_made n g p T ss k ep es eq r u =
       usable = subst (Usable n 1) (sym es) (subst (UsablePart n 1) ep u).0;
     }
 
-pub leaf_usable : (n : ℕ) (p : Part) (S T : PathSum) → p ≡ part.Sum T → S ≡ T → UsablePart n 1 p → Usable n 1 S
-leaf_usable n p S T ep es u = subst (Usable n 1) (sym es) (subst (UsablePart n 1) ep u).0
-
-pub leaf_again : (n i : ℕ) (g : Prim) (k : Kept) (T : PathSum) (qs : List Step) (ms ms' : List Move) → IsKept n g k → T ≡ k.sum.value → qs ≡ k.steps.items → ms' ≡ ms ++ Leaf i ∷ rewrites qs → Leaves n i g ms (kept T ms')
-leaf_again n i g k T qs ms ms' w et eq m =
+pub leaf_again : (n i : ℕ) (g : Prim) (k : Kept) (qs : List Step) (ms ms' : List Move) → IsKept n g k → qs ≡ k.steps.items → ms' ≡ ms ++ Leaf i ∷ rewrites qs → Leaves n i g ms (kept k.gate.sum.value ms')
+leaf_again n i g k qs ms ms' w eq m =
     let e : ms' ≡ with_leaf ms i k.steps.items = m ∙ ap (λ x. ms ++ Leaf i ∷ rewrites x) eq in
-    subst (λ x. Leaves n i g ms (kept x ms')) (sym et) (subst (λ x. Leaves n i g ms (kept k.sum.value x)) (sym e) (leaf_reduces w.is_leaf w.reduces))
+    subst (λ x. Leaves n i g ms (kept k.gate.sum.value x)) (sym e) (leaf_reduces w.is_leaf w.reduces)

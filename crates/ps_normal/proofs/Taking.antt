@@ -6,15 +6,13 @@ use Rattle.ps_prim.specs.declared.prims.Primitive.{Primitive as Prim}
 use Rattle.ps_prim.specs.declared.items.Item.{Item}
 use Rattle.ps_prim.specs.Maps.{IsWithin, AllWithin}
 use Rattle.ps_sum.specs.declared.sums.PathSum.{PathSum}
-use Rattle.ps_rules.specs.declared.steps.Step.{Step}
 use Rattle.ps_rules.specs.declared.steps.Move.{Move}
 use Rattle.ps_rules.specs.Rules.{IsIrreducible}
-use Rattle.ps_join.specs.Joining.{IsLeafOf, IsJoinOf}
-use Rattle.ps_reach.specs.Reductions.{normal, ReducesTo}
+use Rattle.ps_join.specs.Joining.{IsJoinOf}
 use Rattle.ps_reach.specs.declared.evidence.Evidence.{Evidence}
 use Rattle.ps_reach.specs.Runs.{prims_of, run_of}
 use Rattle.ps_reach.specs.Parts.{overrun_of}
-use Rattle.ps_reach.specs.Fillings.{Outcome, kept, passed, Joins, Leaves, leaf_reduces, FillsFrom, leaf_over, join_over, next, Fills, first_over, first}
+use Rattle.ps_reach.specs.Fillings.{Outcome, kept, passed, Joins, Leaves, FillsFrom, leaf_over, join_over, next, Fills, first_over, first}
 use Rattle.ps_reach.proofs.Denoting.{within_first, within_second, scaled_more}
 use Rattle.ps_reach.proofs.Replaying.{length_both}
 use Rattle.ps_normal.specs.declared.parts.Part.{Part}
@@ -24,7 +22,8 @@ use Rattle.ps_normal.specs.declared.parts.LeafPart.TheVariants as leaf
 use Rattle.ps_normal.specs.declared.parts.Taken.{Taken}
 use Rattle.ps_normal.specs.declared.parts.Taken.TheVariants as taken
 use Rattle.ps_normal.specs.Pieces.{PartIs, UsablePart, IsProgress, IsTaken}
-use Rattle.ps_normal.specs.Keeping.{IsPlainPrim, LeafIs}
+use Rattle.ps_normal.specs.declared.kept.Kept.{Kept}
+use Rattle.ps_normal.specs.Keeping.{IsPlainPrim, IsKept, LeafIs}
 use Rattle.ps_normal.proofs.Plains.{plain_still}
 use Rattle.ps_normal.specs.Takings.{Takes, UsableHeld, UsableTaken}
 
@@ -45,7 +44,7 @@ over_cases n i A more ms ms' g e (Some S) l w = w _ (leaf_over l)
 over_taken : (n i : ℕ) (A more : List Prim) (ms ms' : List Move) (g : Prim) (e : Evidence) (p : Part) (held : Option PathSum) → p ≡ part.Over e → PartIs (Leaves n i g ms) ms' p → IsProgress n A (g ∷ more) held i ms → Fills n A (passed (overrun_of e) ms')
 over_taken n i A more ms ms' g e p held is l w = over_cases n i A more ms ms' g e held (subst (PartIs (Leaves n i g ms) ms') is l) w
 
-joined_cases : (n i : ℕ) (A more : List Prim) (ms ms' ms2 : List Move) (g : Prim) (S T : PathSum) (q : Part) → Leaves n i g ms (kept T ms') → PartIs (Joins 0 i (i + 1) S T ms') ms2 q → IsProgress n A (g ∷ more) (Some S) i ms → IsTaken n A more (i + 1) ms2 q
+pub joined_cases : (n i : ℕ) (A more : List Prim) (ms ms' ms2 : List Move) (g : Prim) (S T : PathSum) (q : Part) → Leaves n i g ms (kept T ms') → PartIs (Joins 0 i (i + 1) S T ms') ms2 q → IsProgress n A (g ∷ more) (Some S) i ms → IsTaken n A more (i + 1) ms2 q
 joined_cases n i A more ms ms' ms2 g S T (part.Sum U) l j w = λ o f. w o (next l j f)
 joined_cases n i A more ms ms' ms2 g S T (part.Over e) l j w = w _ (join_over l j)
 joined_cases n i A more ms ms' ms2 g S T part.Stopped l j w = tt
@@ -55,27 +54,12 @@ first_part n i A more ms ms' g (part.Sum T) held h l w = λ o f. first_taken n i
 first_part n i A more ms ms' g (part.Over e) held h l w = over_taken n i A more ms ms' g e (part.Over e) held refl l w
 first_part n i A more ms ms' g part.Stopped held h l w = tt
 
-pub next_taken : (n i : ℕ) (A more : List Prim) (ms ms' ms2 : List Move) (g : Prim) (S : PathSum) (s : Arc PathSum Global) (p : LeafPart) (q : Part) → p ≡ leaf.Sum s → LeafIs (Leaves n i g ms) ms' p → PartIs (Joins 0 i (i + 1) S s.value ms') ms2 q → IsProgress n A (g ∷ more) (Some S) i ms
-    → IsTaken n A more (i + 1) ms2 q
-next_taken n i A more ms ms' ms2 g S s p q e l j w = joined_cases n i A more ms ms' ms2 g S s.value q (subst (LeafIs (Leaves n i g ms) ms') e l) j w
-
 pub next_over : (n i : ℕ) (A more : List Prim) (ms ms' : List Move) (g : Prim) (S : PathSum) (e : Evidence) (p : LeafPart) → p ≡ leaf.Over e → LeafIs (Leaves n i g ms) ms' p → IsProgress n A (g ∷ more) (Some S) i ms → Fills n A (passed (overrun_of e) ms')
 next_over n i A more ms ms' g S e p is l w = w _ (leaf_over (subst (LeafIs (Leaves n i g ms) ms') is l))
 
 -- ---- a prim whose sum has no path variable
-record Made (n : ℕ) (g : Prim) (K : PathSum) : Type 0 where
-  leaf : PathSum
-  steps : List Step
-  is_leaf : IsLeafOf n g leaf
-  reduces : ReducesTo leaf steps (normal K)
-
-made_of : {n i : ℕ} {g : Prim} {K : PathSum} {ms ms' : List Move} → Leaves n i g ms (kept K ms') → Made n g K
-made_of (leaf_reduces {S0 = L} {ss = ss} l r) = record { leaf = L; steps = ss; is_leaf = l; reduces = r }
-
-pub next_still : (n i : ℕ) (g : Prim) (S T : PathSum) (s : Arc PathSum Global) (p : LeafPart) (ms ms' : List Move) → IsPlainPrim g → IsWithin n g → UsableHeld n i (Some S) → p ≡ leaf.Sum s → LeafIs (Leaves n i g ms) ms' p → IsJoinOf S s.value T → IsIrreducible T
-next_still n i g S T s p ms ms' plain w u e l j =
-    let k = made_of (subst (LeafIs (Leaves n i g ms) ms') e l) in
-    plain_still n g S k.leaf s.value T k.steps plain w u.0.n_is u.0.wide k.is_leaf k.reduces u.1 j
+pub next_still : (n i : ℕ) (g : Prim) (S T : PathSum) (k : Kept) → IsPlainPrim g → IsWithin n g → UsableHeld n i (Some S) → IsKept n g k → IsJoinOf S k.gate.sum.value T → IsIrreducible T
+next_still n i g S T k plain w u h j = plain_still n g S h.made k.gate.sum.value T k.steps.items plain w u.0.n_is u.0.wide h.is_leaf h.reduces u.1 j
 
 pub usable_more : (n a b : ℕ) (p : Part) → a ≤ b → UsablePart n a p → UsablePart n b p
 usable_more n a b (part.Sum T) h u = (record { n_is = u.0.n_is; wide = u.0.wide; scale = scaled_more a b T h u.0.scale }, u.1)

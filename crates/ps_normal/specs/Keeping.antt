@@ -38,8 +38,8 @@ IsReducedLeaf n g ss p = (L : PathSum) × (IsLeafOf n g L × IsReducedPart L ss 
 pub record IsKept (n : ℕ) (g : Prim) (k : Kept) : Type 0 where
   pub made : PathSum
   pub is_leaf : IsLeafOf n g made
-  pub reduces : ReducesTo made k.steps.items (normal k.sum.value)
-  pub usable : Usable n 1 k.sum.value
+  pub reduces : ReducesTo made k.steps.items (normal k.gate.sum.value)
+  pub usable : Usable n 1 k.gate.sum.value
 
 -- a slot that is not empty has the leaf of its prim
 abbrev pub IsSlot : ℕ → Option (Box Kept Global) → Type 0
@@ -52,17 +52,18 @@ IsTable n (slot ∷ slots) = IsSlot n slot × IsTable n slots
 
 -- with these moves, R holds of what the leaf comes to
 abbrev pub LeafIs : (Outcome → Type 0) → List Move → LeafPart → Type 0
-LeafIs R ms (leaf.Sum s) = R (kept s.value ms)
+LeafIs R ms (leaf.Made k) = R (kept k.gate.sum.value ms)
 LeafIs R ms (leaf.Over e) = R (passed (overrun_of e) ms)
 LeafIs R ms leaf.Stopped = Unit {0}
 
-abbrev pub UsableLeaf : ℕ → LeafPart → Type 0
-UsableLeaf n (leaf.Sum s) = Usable n 1 s.value
-UsableLeaf n (leaf.Over e) = Unit {0}
-UsableLeaf n leaf.Stopped = Unit {0}
+-- a leaf of g that was made is one that may be kept
+abbrev pub IsMade : ℕ → Prim → LeafPart → Type 0
+IsMade n g (leaf.Made k) = (k.prim ≡ g) × IsKept n g k
+IsMade n g (leaf.Over e) = Unit {0}
+IsMade n g leaf.Stopped = Unit {0}
 
 -- it was stopped only where the count of yeses rose
 abbrev pub LeafRose : ℕ → ℕ → LeafPart → Type 0
-LeafRose old new (leaf.Sum s) = Unit {0}
+LeafRose old new (leaf.Made k) = Unit {0}
 LeafRose old new (leaf.Over e) = Unit {0}
 LeafRose old new leaf.Stopped = Rose old new

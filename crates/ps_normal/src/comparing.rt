@@ -1,6 +1,6 @@
 //! Whether two segments are one linear map.
 
-ghost use Rattle.std.specs.Prelude.{◌≡◌, ◌≤◌, ◌<◌, ◌↔◌, [], length, IsTrue, IfOk};
+ghost use Rattle.std.specs.Prelude.{◌≡◌, ◌≤◌, ◌<◌, ◌↔◌, [], length, IsTrue, IfOk, OnOk};
 ghost use Rattle.ps_reach.specs.Runs.{run_of};
 ghost use Rattle.ps_reach.specs.Parts.{held, overrun_of};
 ghost use Rattle.ps_reach.specs.Judging.{outcome_of, finding_of};
@@ -9,13 +9,15 @@ ghost use Rattle.ps_reach.specs.Findings.{IsUnit, Shows, Overlaps, Compares, lim
 ghost use Rattle.ps_overlap.specs.Overlapping.{IsOverlapOf};
 ghost use Rattle.ps_normal.specs.Ends.{IsEnded};
 ghost use Rattle.ps_reach.specs.Fillings.{Fills};
+ghost use Rattle.ps_normal.specs.Keeping.{IsTable};
 ghost use Rattle.ps_normal.specs.Fillings.{CanRun, IsRecordOf};
 ghost use Rattle.ps_normal.specs.Comparing.{HasFloor, Comparable, Decides};
 ghost use Rattle.ps_normal.specs.Founds.{IsFound};
 
 use super::evidences::{evidence, shared_evidence};
 use super::filled::Filled;
-use super::filling::fill_items;
+use super::filling::fill_with;
+use super::kept::Workspace;
 use super::parts::{Ended, Places};
 use super::reduce::reduce;
 use ps_io::NeverStop;
@@ -202,13 +204,20 @@ pub fn compare(
 }
 
 // The record of a segment that is filled without asking whether to stop.
-fn filled(alloc: Global, n: u32, items: &Arc<Items>) -> Result<Record, AllocError>
+fn filled(
+    alloc: Global,
+    n: u32,
+    items: &Arc<Items>,
+    work: &mut Workspace,
+) -> Result<Record, AllocError>
     requires width { (1 ≤ n) × (n ≤ 64) }
     requires run { CanRun n items.now.value }
-    ensures { IfOk result (λ r. IsRecordOf n items.now.value (Fills n (run_of items.now.value)) r) }
+    requires table { IsTable n work.old.leaves.items }
+    ensures table { OnOk result (IsTable n work.new.leaves.items) }
+    ensures filled { IfOk result (λ r. IsRecordOf n items.now.value (Fills n (run_of items.now.value)) r) }
 {
     let mut never = NeverStop;
-    match fill_items(alloc, n, items, &mut never)? {
+    match fill_with(alloc, n, items, work, &mut never)? {
         Filled::Done(record) => Ok(record),
         Filled::Stopped => unreachable!(),
     }
@@ -231,7 +240,8 @@ pub fn same_gates(
     ensures first_record { IfOk result (λ j. IsRecordOf n first.now.value (Fills n (run_of first.now.value)) j.first.value) }
     ensures second_record { IfOk result (λ j. IsRecordOf n second.now.value (Fills n (run_of second.now.value)) j.second.value) }
 {
-    let before = Arc::new(alloc, filled(alloc, n, first)?)?;
-    let behind = Arc::new(alloc, filled(alloc, n, second)?)?;
+    let mut work = Workspace::new(alloc);
+    let before = Arc::new(alloc, filled(alloc, n, first, &mut work)?)?;
+    let behind = Arc::new(alloc, filled(alloc, n, second, &mut work)?)?;
     compare(alloc, &before, &behind)
 }

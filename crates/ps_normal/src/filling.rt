@@ -6,6 +6,7 @@ ghost use Rattle.ps_reach.specs.Runs.{prims_of, run_of};
 ghost use Rattle.ps_reach.specs.Parts.{outcome_by, IsRight};
 ghost use Rattle.ps_reach.specs.Judging.{outcome_of};
 ghost use Rattle.ps_reach.specs.Fillings.{raised, Fills};
+ghost use Rattle.ps_normal.specs.Keeping.{IsTable};
 ghost use Rattle.ps_normal.specs.Takings.{Takes, TakenRose};
 ghost use Rattle.ps_normal.specs.Pieces.{PartIs, PartRose};
 ghost use Rattle.ps_normal.specs.Fillings.{CanJoin, CanRun, CanFill, IsRecordOf, IsFilled, IsFilledRun, FilledRose, Joined};
@@ -77,6 +78,26 @@ fn taken_record(
     }
 }
 
+/// The record of a segment's items, with leaves that were kept, and those that are met first.
+pub(crate) fn fill_with<S: Stop>(
+    alloc: Global,
+    n: u32,
+    items: &Arc<Items>,
+    work: &mut Workspace,
+    stop: &mut S,
+) -> Result<Filled, AllocError>
+    requires width { (1 ≤ n) × (n ≤ 64) }
+    requires run { CanRun n items.now.value }
+    requires table { IsTable n work.old.leaves.items }
+    ensures filled { IfOk result (λ f. IsFilledRun n items.now.value f) }
+    ensures table { OnOk result (IsTable n work.new.leaves.items) }
+    ensures stopped { IfOk result (λ f. FilledRose (S.yeses stop.old) (S.yeses stop.new) f) }
+{
+    let mut moves = Vec::new(alloc);
+    let taken = take_items(alloc, n, items, &mut moves, work, stop)?;
+    taken_record(alloc, n, Arc::try_clone(items)?, moves, taken)
+}
+
 /// The record of a segment's items.
 pub fn fill_items<S: Stop>(
     alloc: Global,
@@ -89,13 +110,8 @@ pub fn fill_items<S: Stop>(
     ensures filled { IfOk result (λ f. IsFilledRun n items.now.value f) }
     ensures stopped { IfOk result (λ f. FilledRose (S.yeses stop.old) (S.yeses stop.new) f) }
 {
-    let mut moves = Vec::new(alloc);
-    let mut work = Workspace {
-        steps: Vec::new(alloc),
-        leaves: Vec::new(alloc),
-    };
-    let taken = take_items(alloc, n, items, &mut moves, &mut work, stop)?;
-    taken_record(alloc, n, Arc::try_clone(items)?, moves, taken)
+    let mut work = Workspace::new(alloc);
+    fill_with(alloc, n, items, &mut work, stop)
 }
 
 /// Computes what a segment is made of into its record: the normal sum, or the first limit that is

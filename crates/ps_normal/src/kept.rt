@@ -1,13 +1,15 @@
+ghost use Rattle.std.specs.Prelude.{◌≡◌, []};
+
+use ps_join::Gate;
 use ps_prim::Prim;
 use ps_rules::Step;
-use ps_sum::PathSum;
-use std::sync::Arc;
+use std::alloc::Global;
 
 /// The normal sum of a prim's leaf, and the steps that lead there.
 #[derive(Drop)]
 pub struct Kept {
     pub prim: Prim,
-    pub sum: Arc<PathSum>,
+    pub gate: Gate,
     pub steps: Vec<Step>,
 }
 
@@ -19,4 +21,16 @@ pub struct Workspace {
     /// Leaves of prims that were met, each in the slot of its prim, where the last one stays. There is
     /// no slot before the first.
     pub leaves: Vec<Option<Box<Kept>>>,
+}
+
+impl Workspace {
+    /// Without steps or leaves.
+    pub fn new(alloc: Global) -> Workspace
+        ensures { result.leaves.items ≡ [] }
+    {
+        Workspace {
+            steps: Vec::new(alloc),
+            leaves: Vec::new(alloc),
+        }
+    }
 }

@@ -3,20 +3,23 @@
 ghost use Rattle.std.specs.Prelude.{◌≡◌, ℕ, ◌<◌, ◌≤◌, ◌↔◌, IfOk, OnOk, IfSome, IsTrue};
 ghost use Rattle.ps_prim.specs.Maps.{IsWithin};
 ghost use Rattle.ps_reach.specs.Fillings.{Leaves};
-ghost use Rattle.ps_normal.specs.Keeping.{IsKept, IsTable, LeafIs, LeafRose, UsableLeaf};
+ghost use Rattle.ps_normal.specs.Keeping.{IsKept, IsTable, IsMade, LeafIs, LeafRose};
 
-use super::evidences::push_moves;
-use super::kept::{Kept, Workspace};
+use super::kept::Kept;
 use super::parts::{LeafPart, Part};
 use super::prims::leaf_part;
 use ps_io::Stop;
+use ps_join::Gate;
 use ps_prim::Prim;
-use ps_rules::Move;
+use ps_rules::{Move, Step};
 use std::alloc::{AllocError, Global};
 use std::sync::Arc;
 
-/// How many leaves are kept at most.
-const SLOTS: usize = 1024;
+// How many qubits have slots of their own.
+const QUBITS: usize = 64;
+
+// How many slots a qubit has for its turns, and as many for the gates that it controls.
+const SLOTS: usize = 64;
 
 // Whether the two are one prim.
 fn same_prim(first: &Prim, second: &Prim) -> bool
@@ -53,27 +56,27 @@ fn mixed(number: u32) -> u32 {
     number ^ (number >> 15)
 }
 
-// The slot of a prim.
+// The slot of a prim: those of one qubit stand together, so that a table is no longer than the qubits
+// that were met need.
 fn slot_of(prim: &Prim) -> usize
-    ensures { result < 1024 }
+    ensures { result < 8192 }
 {
-    let number = match *prim {
+    match *prim {
         Prim::U {
             theta,
             phi,
             lambda,
             q,
         } => {
-            let turned = mixed(mixed(q) ^ theta.units());
-            mixed(mixed(turned ^ phi.units()) ^ lambda.units())
+            let turn = mixed(mixed(mixed(theta.units()) ^ phi.units()) ^ lambda.units());
+            2 * SLOTS * (q as usize % QUBITS) + (turn >> 13) as usize % SLOTS
         }
-        Prim::Cx { c, t } => mixed(mixed(c) ^ t),
-    };
-    number as usize % SLOTS
+        Prim::Cx { c, t } => 2 * SLOTS * (c as usize % QUBITS) + SLOTS + t as usize % SLOTS,
+    }
 }
 
-// The leaf of the prim, where it is kept.
-fn kept_leaf<'a>(leaves: &'a [Option<Box<Kept>>], prim: &Prim) -> Option<&'a Kept>
+/// The leaf of the prim, where it is kept.
+pub fn kept_leaf<'a>(leaves: &'a [Option<Box<Kept>>], prim: &Prim) -> Option<&'a Kept>
     ensures { IfSome result (λ k. (n : ℕ) → IsTable n leaves.now → IsKept n prim.now k.now) }
 {
     match leaves.get(slot_of(prim)) {
@@ -88,79 +91,47 @@ fn kept_leaf<'a>(leaves: &'a [Option<Box<Kept>>], prim: &Prim) -> Option<&'a Kep
     }
 }
 
-// Puts the leaf into the slot of its prim.
-fn keep(alloc: Global, leaves: &mut Vec<Option<Box<Kept>>>, kept: Kept) -> Result<(), AllocError>
+/// Puts the leaf into the slot of its prim.
+pub fn keep(
+    alloc: Global,
+    leaves: &mut Vec<Option<Box<Kept>>>,
+    kept: Kept,
+) -> Result<(), AllocError>
     ensures { OnOk result ((n : ℕ) → IsTable n leaves.old.items → IsKept n kept.prim kept → IsTable n leaves.new.items) }
 {
-    'slots: while leaves.len() < SLOTS {
+    let slot = slot_of(&kept.prim);
+    'slots: while leaves.len() <= slot {
         leaves.push(None)?;
     }
-    let slot = slot_of(&kept.prim);
     leaves[slot] = Some(Box::new(alloc, kept)?);
     Ok(())
 }
 
-// The leaf of the prim at a place, made and kept.
-fn new_leaf<S: Stop>(
+/// The leaf of the prim at a place, reduced, to be kept.
+pub fn new_leaf<S: Stop>(
     alloc: Global,
     n: u32,
     prim: &Prim,
     place: u32,
     moves: &mut Vec<Move>,
-    work: &mut Workspace,
+    steps: &mut Vec<Step>,
     stop: &mut S,
 ) -> Result<LeafPart, AllocError>
     requires width { (1 ≤ n) × (n ≤ 64) }
     requires within { IsWithin n prim.now }
     requires few { place < 268435456 }
-    requires table { IsTable n work.old.leaves.items }
     ensures part { IfOk result (λ p. LeafIs (Leaves n place prim.now moves.old.items) moves.new.items p) }
-    ensures usable { IfOk result (λ p. UsableLeaf n p) }
-    ensures table { OnOk result (IsTable n work.new.leaves.items) }
+    ensures kept { IfOk result (λ p. IsMade n prim.now p) }
     ensures stopped { IfOk result (λ p. LeafRose (S.yeses stop.old) (S.yeses stop.new) p) }
     ensures never_falls { S.yeses stop.old ≤ S.yeses stop.new }
 {
-    match leaf_part(alloc, n, prim, place, moves, &mut work.steps, stop)? {
-        Part::Sum(sum) => {
-            let sum = Arc::new(alloc, sum)?;
-            let kept = Kept {
-                prim: *prim,
-                sum: Arc::try_clone(&sum)?,
-                steps: Vec::from_slice(alloc, &work.steps)?,
-            };
-            keep(alloc, &mut work.leaves, kept)?;
-            Ok(LeafPart::Sum(sum))
-        }
+    match leaf_part(alloc, n, prim, place, moves, steps, stop)? {
+        Part::Sum(sum) => Ok(LeafPart::Made(Kept {
+            prim: *prim,
+            gate: Gate::of(Arc::new(alloc, sum)?),
+            steps: Vec::from_slice(alloc, steps)?,
+        })),
         Part::Over(evidence) => Ok(LeafPart::Over(evidence)),
         Part::Stopped => Ok(LeafPart::Stopped),
-    }
-}
-
-/// The leaf of the prim at a place, reduced: the one that is kept, or else it is made and kept.
-pub fn shared_leaf<S: Stop>(
-    alloc: Global,
-    n: u32,
-    prim: &Prim,
-    place: u32,
-    moves: &mut Vec<Move>,
-    work: &mut Workspace,
-    stop: &mut S,
-) -> Result<LeafPart, AllocError>
-    requires width { (1 ≤ n) × (n ≤ 64) }
-    requires within { IsWithin n prim.now }
-    requires few { place < 268435456 }
-    requires table { IsTable n work.old.leaves.items }
-    ensures part { IfOk result (λ p. LeafIs (Leaves n place prim.now moves.old.items) moves.new.items p) }
-    ensures usable { IfOk result (λ p. UsableLeaf n p) }
-    ensures table { OnOk result (IsTable n work.new.leaves.items) }
-    ensures stopped { IfOk result (λ p. LeafRose (S.yeses stop.old) (S.yeses stop.new) p) }
-    ensures never_falls { S.yeses stop.old ≤ S.yeses stop.new }
-{
-    match kept_leaf(&work.leaves, prim) {
-        Some(kept) => {
-            push_moves(moves, Move::Leaf(place), &kept.steps)?;
-            Ok(LeafPart::Sum(Arc::try_clone(&kept.sum)?))
-        }
-        None => new_leaf(alloc, n, prim, place, moves, work, stop),
     }
 }

@@ -1,6 +1,6 @@
+use super::kept::Kept;
 use ps_reach::Evidence;
 use ps_sum::{Passed, PathSum};
-use std::sync::Arc;
 
 /// Where reducing a sum ended.
 #[derive(Drop)]
@@ -27,8 +27,8 @@ pub enum Part {
 /// What the leaf of a prim comes to.
 #[derive(Drop)]
 pub enum LeafPart {
-    /// Its normal sum.
-    Sum(Arc<PathSum>),
+    /// Its normal sum, with the steps that lead there.
+    Made(Kept),
     /// A limit that is passed.
     Over(Evidence),
     /// It was asked to stop.

@@ -16,7 +16,7 @@ use super::evidences::{evidence, push_moves, shared_evidence};
 use super::parts::{Ended, Part, Places};
 use super::reduce::{reduce, settle};
 use ps_io::Stop;
-use ps_join::{OntoFault, join_onto, leaf};
+use ps_join::{Gate, OntoFault, join_gate, leaf};
 use ps_prim::Prim;
 use ps_rules::{Move, Step};
 use ps_sum::PathSum;
@@ -90,33 +90,33 @@ pub fn is_plain(prim: &Prim) -> bool
     }
 }
 
-/// The second sum behind the first, which is given away, reduced; where it is known that no step
+/// The gate's sum behind the first, which is given away, reduced; where it is known that no step
 /// applies to it, none is looked for.
 pub fn join_part<S: Stop>(
     alloc: Global,
     places: Places,
     first: PathSum,
-    second: &Arc<PathSum>,
+    gate: &Gate,
     still: bool,
     moves: &mut Vec<Move>,
     steps: &mut Vec<Step>,
     stop: &mut S,
 ) -> Result<Part, AllocError>
-    requires ready { Joinable first second.now.value }
-    requires still { IsTrue still → (T : PathSum) → IsJoinOf first second.now.value T → IsIrreducible T }
-    ensures part { IfOk result (λ p. PartIs (Joins places.from places.middle places.to first second.now.value moves.old.items) moves.new.items p) }
-    ensures usable { IfOk result (λ p. (n a b : ℕ) → Usable n a first → Usable n b second.now.value → UsablePart n (a + b) p) }
+    requires ready { Joinable first gate.now.sum.value }
+    requires still { IsTrue still → (T : PathSum) → IsJoinOf first gate.now.sum.value T → IsIrreducible T }
+    ensures part { IfOk result (λ p. PartIs (Joins places.from places.middle places.to first gate.now.sum.value moves.old.items) moves.new.items p) }
+    ensures usable { IfOk result (λ p. (n a b : ℕ) → Usable n a first → Usable n b gate.now.sum.value → UsablePart n (a + b) p) }
     ensures stopped { IfOk result (λ p. PartRose (S.yeses stop.old) (S.yeses stop.new) p) }
     ensures never_falls { S.yeses stop.old ≤ S.yeses stop.new }
 {
-    match join_onto(alloc, first, second) {
+    match join_gate(alloc, first, gate) {
         Ok(sum) => {
             let ended = settle(alloc, sum, still, steps, stop)?;
             ended_part(alloc, places, Move::Join, ended, moves, steps)
         }
         Err(OntoFault::Passed { passed, first }) => {
             let first = Arc::new(alloc, first)?;
-            let second = Arc::try_clone(second)?;
+            let second = Arc::try_clone(&gate.sum)?;
             Ok(Part::Over(shared_evidence(passed, places, first, Some(second))))
         }
         Err(OntoFault::Memory) => Err(AllocError),

@@ -4,20 +4,96 @@ ghost use Rattle.std.specs.Prelude.{◌≡◌, ℕ, ◌<◌, ◌≤◌, ◌+◌,
 ghost use Rattle.ps_prim.specs.declared.prims.Primitive.{Primitive as Prim};
 ghost use Rattle.ps_prim.specs.Maps.{IsWithin, AllWithin};
 ghost use Rattle.ps_reach.specs.Runs.{run_of};
-ghost use Rattle.ps_normal.specs.Pieces.{PartRose, UsablePart, IsProgress, IsTaken};
-ghost use Rattle.ps_normal.specs.Keeping.{IsTable};
+ghost use Rattle.ps_reach.specs.Fillings.{Joins};
+ghost use Rattle.ps_normal.specs.Pieces.{PartIs, PartRose, UsablePart, IsProgress, IsTaken};
+ghost use Rattle.ps_normal.specs.Keeping.{IsTable, IsKept};
 ghost use Rattle.ps_normal.specs.Takings.{Takes, UsableHeld, UsableTaken, TakenRose};
 
-use super::kept::Workspace;
-use super::leaves::shared_leaf;
+use super::evidences::push_moves;
+use super::kept::{Kept, Workspace};
+use super::leaves::{keep, kept_leaf, new_leaf};
 use super::parts::{LeafPart, Part, Places, Taken};
 use super::prims::{is_plain, join_part, leaf_part};
 use ps_io::Stop;
 use ps_prim::Prim;
 use ps_reach::Items;
-use ps_rules::Move;
+use ps_rules::{Move, Step};
 use ps_sum::PathSum;
 use std::alloc::{AllocError, Global};
+
+// A leaf that is kept, behind the sum of the prims before its place.
+fn take_kept<S: Stop>(
+    alloc: Global,
+    n: u32,
+    prim: &Prim,
+    sum: PathSum,
+    place: u32,
+    kept: &Kept,
+    moves: &mut Vec<Move>,
+    steps: &mut Vec<Step>,
+    stop: &mut S,
+) -> Result<Part, AllocError>
+    requires width { (1 ≤ n) × (n ≤ 64) }
+    requires within { IsWithin n prim.now }
+    requires few { place < 268435456 }
+    requires usable { UsableHeld n place (Some sum) }
+    requires kept { IsKept n prim.now kept.now }
+    ensures part { IfOk result (λ p. PartIs (Joins 0 place (place + 1) sum kept.now.gate.sum.value moves.old.items) moves.new.items p) }
+    ensures usable { IfOk result (λ p. UsablePart n (place + 1) p) }
+    ensures stopped { IfOk result (λ p. PartRose (S.yeses stop.old) (S.yeses stop.new) p) }
+    ensures never_falls { S.yeses stop.old ≤ S.yeses stop.new }
+{
+    let places = Places {
+        from: 0,
+        middle: place,
+        to: place + 1,
+    };
+    let still = is_plain(prim);
+    join_part(alloc, places, sum, &kept.gate, still, moves, steps, stop)
+}
+
+// The prim at a place, which is met first, behind the sum of those before it.
+fn take_new<S: Stop>(
+    alloc: Global,
+    n: u32,
+    prim: &Prim,
+    sum: PathSum,
+    place: u32,
+    moves: &mut Vec<Move>,
+    work: &mut Workspace,
+    stop: &mut S,
+) -> Result<Part, AllocError>
+    requires width { (1 ≤ n) × (n ≤ 64) }
+    requires within { IsWithin n prim.now }
+    requires few { place < 268435456 }
+    requires usable { UsableHeld n place (Some sum) }
+    requires table { IsTable n work.old.leaves.items }
+    ensures taken { IfOk result (λ p. (A more : List Prim) → IsProgress n A (prim.now ∷ more) (Some sum) place moves.old.items → IsTaken n A more (place + 1) moves.new.items p) }
+    ensures usable { IfOk result (λ p. UsablePart n (place + 1) p) }
+    ensures table { OnOk result (IsTable n work.new.leaves.items) }
+    ensures stopped { IfOk result (λ p. PartRose (S.yeses stop.old) (S.yeses stop.new) p) }
+    ensures never_falls { S.yeses stop.old ≤ S.yeses stop.new }
+{
+    match new_leaf(alloc, n, prim, place, moves, &mut work.steps, stop)? {
+        LeafPart::Made(kept) => {
+            let part = take_kept(
+                alloc,
+                n,
+                prim,
+                sum,
+                place,
+                &kept,
+                moves,
+                &mut work.steps,
+                stop,
+            )?;
+            keep(alloc, &mut work.leaves, kept)?;
+            Ok(part)
+        }
+        LeafPart::Over(evidence) => Ok(Part::Over(evidence)),
+        LeafPart::Stopped => Ok(Part::Stopped),
+    }
+}
 
 // The prim at a place behind the sum of those before it.
 fn take_next<S: Stop>(
@@ -41,27 +117,22 @@ fn take_next<S: Stop>(
     ensures stopped { IfOk result (λ p. PartRose (S.yeses stop.old) (S.yeses stop.new) p) }
     ensures never_falls { S.yeses stop.old ≤ S.yeses stop.new }
 {
-    match shared_leaf(alloc, n, prim, place, moves, work, stop)? {
-        LeafPart::Sum(leaf) => {
-            let places = Places {
-                from: 0,
-                middle: place,
-                to: place + 1,
-            };
-            let still = is_plain(prim);
-            join_part(
+    match kept_leaf(&work.leaves, prim) {
+        Some(kept) => {
+            push_moves(moves, Move::Leaf(place), &kept.steps)?;
+            take_kept(
                 alloc,
-                places,
+                n,
+                prim,
                 sum,
-                &leaf,
-                still,
+                place,
+                kept,
                 moves,
                 &mut work.steps,
                 stop,
             )
         }
-        LeafPart::Over(evidence) => Ok(Part::Over(evidence)),
-        LeafPart::Stopped => Ok(Part::Stopped),
+        None => take_new(alloc, n, prim, sum, place, moves, work, stop),
     }
 }
 
@@ -144,6 +215,7 @@ pub fn take_items<S: Stop>(
     requires table { IsTable n work.old.leaves.items }
     ensures taken { IfOk result (λ t. Takes n (run_of items.now) [] (length (run_of items.now)) moves.new.items t) }
     ensures usable { IfOk result (λ t. UsableTaken n (length (run_of items.now)) t) }
+    ensures table { OnOk result (IsTable n work.new.leaves.items) }
     ensures stopped { IfOk result (λ t. TakenRose (S.yeses stop.old) (S.yeses stop.new) t) }
 {
     let mut held = None;

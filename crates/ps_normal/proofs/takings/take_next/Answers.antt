@@ -1,14 +1,16 @@
+use Rattle.std.proofs.Common.{sym, subst}
 use Rattle.std.proofs.lemmas.Result.{IfOk-weaker}
-use Rattle.ps_normal.proofs.Taking.{next_taken, next_over, next_still}
+use Rattle.ps_normal.specs.Keeping.{IsTable}
+use Rattle.ps_normal.proofs.Tables.{leaf_again}
+use Rattle.ps_normal.proofs.Taking.{joined_cases}
 use Rattle.ps_normal.proofs.takings.take_next.Goals as goal
 
-pub returns-in-Sum-clause-taken : goal.returns-in-Sum-clause-taken
-returns-in-Sum-clause-taken g c = IfOk-weaker c.join_part.result _ _
-    (λ q j A more w. next_taken c.args.n c.args.place A more c.args.moves.now.items c.shared_leaf.new.moves.items c.join_part.new.moves.items c.args.prim.now c.args.sum c.in-Sum.leaf c.in_ok-leaf.field-0 q c.in-Sum.is c.in_ok-leaf.ensures.part j w)
-    c.join_part.ensures.part
+pub take_kept-requires-clause-kept : goal.take_kept-requires-clause-kept
+take_kept-requires-clause-kept g c = c.in-Some.ensures c.args.n (subst (IsTable c.args.n) (sym c.deref.ensures.value) c.requires.table)
 
-pub returns-in-Over-clause-taken : goal.returns-in-Over-clause-taken
-returns-in-Over-clause-taken g c = λ A more w. next_over c.args.n c.args.place A more c.args.moves.now.items c.shared_leaf.new.moves.items c.args.prim.now c.args.sum c.in-Over.evidence c.in_ok-leaf.field-0 c.in-Over.is c.in_ok-leaf.ensures.part w
-
-pub join_part-requires-clause-still : goal.join_part-requires-clause-still
-join_part-requires-clause-still g c = λ t T j. next_still c.args.n c.args.place c.args.prim.now c.args.sum T c.in-Sum.leaf c.in_ok-leaf.field-0 c.args.moves.now.items c.shared_leaf.new.moves.items (c.is_plain-still.ensures.0 t) c.requires.within c.requires.usable c.in-Sum.is c.in_ok-leaf.ensures.part j
+pub returns-in_ok-push_moves-in-Some-clause-taken : goal.returns-in_ok-push_moves-in-Some-clause-taken
+returns-in_ok-push_moves-in-Some-clause-taken g c = IfOk-weaker c.take_kept.result _ _
+    (λ q j A more w. joined_cases c.args.n c.args.place A more c.args.moves.now.items c.push_moves.new.moves.items c.take_kept.new.moves.items c.args.prim.now c.args.sum c.in-Some.kept.now.gate.sum.value q
+    (leaf_again c.args.n c.args.place c.args.prim.now c.in-Some.kept.now c.deref-in-Some.result.now c.args.moves.now.items c.push_moves.new.moves.items
+    (c.in-Some.ensures c.args.n (subst (IsTable c.args.n) (sym c.deref.ensures.value) c.requires.table)) c.deref-in-Some.ensures.value c.in_ok-push_moves-in-Some.ensures) j w)
+    c.take_kept.ensures.part

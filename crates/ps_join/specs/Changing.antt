@@ -1,0 +1,62 @@
+-- Sums that change at most one output, and what they come to behind others.
+use Rattle.std.specs.Prelude.{ℕ, ◌≡◌, ◌≢◌, ◌<◌, ◌≤◌, false, List, [], ◌∷◌, Option, Some, None, length, get_or, set}
+use Rattle.std.specs.Coded.{le_prop}
+use Rattle.std.proofs.Props.{props}
+use Rattle.ps_mono.specs.Sets.{stands}
+use Rattle.ps_phase.specs.declared.terms.Term.{Term}
+use Rattle.ps_phase.specs.Phases.{phase_occurs}
+use Rattle.ps_join.specs.declared.changes.Change.{Change}
+use Rattle.ps_join.specs.declared.changes.Change.TheVariants.{Stay, Path, Flip, Sum}
+use Rattle.ps_join.specs.Parts.{BoolPart, IsPair}
+
+-- each output but output q is its input
+abbrev pub OthersStay : ℕ → List (List (List ℕ)) → Type 0
+OthersStay q gs = (i : ℕ) → i < length gs → i ≢ q → get_or gs i [] ≡ (i ∷ []) ∷ []
+
+-- output q is g, and each other is its input
+abbrev pub OneIs : ℕ → List (List (List ℕ)) → List (List ℕ) → Type 0
+OneIs q gs g = (q < length gs) × ((get_or gs q [] ≡ g) × OthersStay q gs)
+
+-- of the outputs gs of a sum on n qubits those change that are told
+pub record IsChange (n : ℕ) (gs : List (List (List ℕ))) (c : Change) : Type 0 where
+  pub stay : c ≡ Stay → (i : ℕ) → i < length gs → get_or gs i [] ≡ (i ∷ []) ∷ []
+  pub path : (q y : ℕ) → c ≡ Path q y → OneIs q gs ((y ∷ []) ∷ []) × (n ≤ y)
+  pub flip : (q : ℕ) → c ≡ Flip q → OneIs q gs ([] ∷ (q ∷ []) ∷ [])
+  pub sum : (q i j : ℕ) → c ≡ Sum q i j → OneIs q gs ((i ∷ []) ∷ (j ∷ []) ∷ []) × ((i < j) × (j < n))
+
+pub IsChange-prop : (n : ℕ) (gs : List (List (List ℕ))) (c : Change) → IsProp (IsChange n gs c)
+IsChange-prop n gs c = hlevel (props, le_prop)
+
+-- output q, g, becomes what is told
+pub record IsKind (n q : ℕ) (g : List (List ℕ)) (c : Change) : Type 0 where
+  pub stay : c ≢ Stay
+  pub path : (r y : ℕ) → c ≡ Path r y → (r ≡ q) × ((g ≡ (y ∷ []) ∷ []) × (n ≤ y))
+  pub flip : (r : ℕ) → c ≡ Flip r → (r ≡ q) × (g ≡ [] ∷ (r ∷ []) ∷ [])
+  pub sum : (r i j : ℕ) → c ≡ Sum r i j → (r ≡ q) × IsPair n g i j
+
+-- of the inputs below n at most q stands in m
+abbrev pub NoOther : ℕ → ℕ → List ℕ → Type 0
+NoOther q n m = (u : ℕ) → u < n → u ≢ q → stands u m ≡ false
+
+-- and in a phase
+abbrev pub OnlyInput : ℕ → ℕ → List Term → Type 0
+OnlyInput n q p = (u : ℕ) → u < n → u ≢ q → phase_occurs u p ≡ false
+
+-- each output is short
+abbrev pub AllShort : List (List (List ℕ)) → Type 0
+AllShort fs = (i : ℕ) → i < length fs → length (get_or fs i []) < 32768
+
+-- the changed output of the second's outputs gs, with its place, behind the first's outputs fs; None: each is its input
+abbrev pub Becomes : ℕ → ℕ → ℕ → List (List (List ℕ)) → List (List (List ℕ)) → Option (ℕ × List (List ℕ)) → Type 0
+Becomes n m1 m2 fs gs None = (i : ℕ) → i < length gs → get_or gs i [] ≡ (i ∷ []) ∷ []
+Becomes n m1 m2 fs gs (Some o) = (o.0 < length gs) × (OthersStay o.0 gs × BoolPart n m1 m2 fs (get_or gs o.0 []) o.1)
+
+-- its place is below the width
+abbrev pub IsInside : ℕ → Option (ℕ × List (List ℕ)) → Type 0
+IsInside width None = Unit {0}
+IsInside width (Some o) = o.0 < width
+
+-- it stands in its place
+abbrev pub put_output : Option (ℕ × List (List ℕ)) → List (List (List ℕ)) → List (List (List ℕ))
+put_output None fs = fs
+put_output (Some o) fs = set fs o.0 o.1
