@@ -71,6 +71,20 @@ fn gives(alloc: Global, sum: PathSum, step: Step, wanted: &str) -> Result<bool, 
     }
 }
 
+// Whether the first step, taken without a further look, gives the sum with this text.
+fn advances(alloc: Global, sum: PathSum, wanted: &str) -> Result<bool, AllocError> {
+    if sum.k < -100 {
+        return Ok(false);
+    }
+    match find(&sum) {
+        None => Ok(false),
+        Some(step) => match advance(alloc, sum, step) {
+            Ok(next) => Ok(next.text(alloc)?.as_slice() == wanted.as_bytes()),
+            Err(_) => Ok(false),
+        },
+    }
+}
+
 // Whether both calls refuse the step for this reason, and the sum comes back as it was.
 fn refuses(
     alloc: Global,
@@ -144,6 +158,10 @@ fn hadamard(rt: HostRuntime) -> Result<(), Fail> {
     let two = open(alloc, (2, 2), &[(3, 4), (6, 4)], 2)?.expect(&rt, "a sum");
     assert_eq!(rt; find(&two), Some(Step::Hh { y0: 0, y1: 1 }));
     assert!(rt; gives(alloc, two, Step::Hh { y0: 0, y1: 1 }, "k=0 m=0 P=0 f=x0")?);
+    // the second variable is the lower one, and is 0
+    let turned = open(alloc, (2, 2), &[(3, 4), (6, 4)], 1)?.expect(&rt, "a sum");
+    assert_eq!(rt; find(&turned), Some(Step::Hh { y0: 1, y1: 0 }));
+    assert!(rt; advances(alloc, turned, "k=0 m=0 P=0 f=0")?);
     Ok(())
 }
 
