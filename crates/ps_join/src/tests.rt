@@ -10,6 +10,7 @@ use ps_ring::{Angle, Phase};
 use ps_sum::{JoinFault, Outputs, Passed, PathSum, What};
 use std::alloc::{AllocError, Global};
 use std::process::Abort;
+use std::sync::Arc;
 use std::test::Fail;
 
 fn is_text(alloc: Global, sum: &PathSum, wanted: &str) -> Result<bool, AllocError> {
@@ -73,6 +74,28 @@ fn onto(
     }
 }
 
+// This sum, ready to be put behind others.
+fn ready(alloc: Global, sum: PathSum) -> Result<Gate, AllocError> {
+    Ok(Gate::of(Arc::new(alloc, sum)?))
+}
+
+// A sum that is ready behind the first.
+fn gated(
+    rt: &impl Abort,
+    alloc: Global,
+    first: PathSum,
+    second: &Gate,
+) -> Result<PathSum, JoinFault> {
+    assert!(rt; first.n == second.sum.n);
+    assert!(rt; !first.outs.polys().is_empty() && !second.sum.outs.polys().is_empty());
+    assert!(rt; first.k > -1000 && first.k < 1000 && second.sum.k > -1000 && second.sum.k < 1000);
+    match join_gate(alloc, first, second) {
+        Ok(sum) => Ok(sum),
+        Err(OntoFault::Passed { passed, .. }) => Err(JoinFault::Passed(passed)),
+        Err(OntoFault::Memory) => Err(JoinFault::Memory),
+    }
+}
+
 // The sum of a Hadamard gate after one step: half a turn where x0 and y0 are 1, and the output y0.
 fn half(rt: &impl Abort, alloc: Global) -> Result<PathSum, AllocError> {
     let mono = Mono::var(0).union(&Mono::var(1));
@@ -90,6 +113,9 @@ fn joins(rt: HostRuntime) -> Result<(), Fail> {
     assert!(rt; is_text(alloc, &behind(&rt, alloc, &half, &half)?, wanted)?);
     let first = behind(&rt, alloc, &half, &identity(alloc, 1)?)?;
     assert!(rt; is_text(alloc, &onto(&rt, alloc, first, &half)?, wanted)?);
+    let first = behind(&rt, alloc, &half, &identity(alloc, 1)?)?;
+    let gate = ready(alloc, half)?;
+    assert!(rt; is_text(alloc, &gated(&rt, alloc, first, &gate)?, wanted)?);
     Ok(())
 }
 
@@ -98,7 +124,7 @@ fn parity(rt: &impl Abort, alloc: Global) -> Result<PathSum, JoinFault> {
     let mut sum = identity(alloc, 64)?;
     for c in 0..63 {
         let second = leaf(alloc, &Prim::Cx { c, t: 63 }, 64)?;
-        sum = onto(rt, alloc, sum, &second)?;
+        sum = gated(rt, alloc, sum, &ready(alloc, second)?)?;
     }
     Ok(sum)
 }
