@@ -8,11 +8,11 @@ use Rattle.ps_rules.specs.declared.steps.Move.{Move}
 use Rattle.ps_overlap.specs.Overlapping.{point}
 use Rattle.ps_reach.specs.Overruns.{Overrun}
 use Rattle.ps_reach.specs.Runs.{run_of}
-use Rattle.ps_reach.specs.Fillings.{Outcome, Fills, kept}
-use Rattle.ps_reach.specs.Findings.{Finding, yes, no, stuck, limit, Compares}
+use Rattle.ps_reach.specs.Fillings.{Outcome, Fills, kept, passed}
+use Rattle.ps_reach.specs.Findings.{Finding, yes, no, stuck, limit, Compares, first_limit}
 use Rattle.ps_reach.proofs.FillsOnce.{fills_only}
 use Rattle.ps_reach.proofs.Justifying.{compares_only}
-use Rattle.ps_normal.specs.Comparing.{Decides}
+use Rattle.ps_normal.specs.Comparing.{Decides, PassesFirst, Settles, early, both as compared}
 use Rattle.ps_normal.specs.Deriving.{lines_by}
 use Rattle.ps_steps.specs.declared.derivation.Derivation.{Derivation}
 use Rattle.ps_steps.specs.Texts.{lines_text}
@@ -120,8 +120,20 @@ compares_one n A B o1 o2 u1 u2 ss ts f g a b c d e h =
 finding_one : (n : ℕ) (A B : List Prim) (ss ts : List Step) (f g : Finding) → Decides n A B ss f → Decides n A B ts g → f ≡ g
 finding_one n A B ss ts f g d e = (compares_one n A B d.first d.second e.first e.second ss ts f g d.first_fills d.second_fills d.compares e.first_fills e.second_fills e.compares).1
 
+early_one : (n : ℕ) (A B : List Prim) (ss : List Step) (e : Overrun) (g : Finding) → PassesFirst n A e → Decides n A B ss g → limit e ≡ g
+early_one n A B ss e g p d = (compares_only first_limit (subst (λ o. Compares o d.second ss g) (fills_only d.first_fills p.fills) d.compares)).found
+
+same_limits : (d e : Overrun) (ms ns : List Move) → passed d ms ≡ passed e ns → limit d ≡ limit e
+same_limits d e ms ns h = cc
+
+settled_one : (n : ℕ) (A B : List Prim) {ss ts : List Step} {f g : Finding} → Settles n A B ss f → Settles n A B ts g → f ≡ g
+settled_one n A B (early {e = d} p) (early {e = e} q) = same_limits d e p.moves q.moves (fills_only p.fills q.fills)
+settled_one n A B (early {e = e} p) (compared {steps = ts} {finding = g} d) = early_one n A B ts e g p d
+settled_one n A B (compared {steps = ss} {finding = f} d) (early {e = e} p) = sym (early_one n A B ss e f p d)
+settled_one n A B (compared {steps = ss} {finding = f} d) (compared {steps = ts} {finding = g} e) = finding_one n A B ss ts f g d e
+
 verdict_one : (n : ℕ) (A B : List Prim) (a b : Answer) → IsVerdict n A B a → IsVerdict n A B b → Agree a b
-verdict_one n A B a b d e = says_one n d.finding e.finding a b (finding_one n A B d.steps e.steps d.finding e.finding d.decided e.decided) d.told e.told
+verdict_one n A B a b d e = says_one n d.finding e.finding a b (settled_one n A B d.decided e.decided) d.told e.told
 
 -- ---- derivations
 kept_moves : (S T : PathSum) (ms ns : List Move) → kept S ms ≡ kept T ns → ms ≡ ns
@@ -137,11 +149,16 @@ derivation_one n A B d e x y =
     let b = kept_moves x.second y.second x.second_moves y.second_moves (fills_only x.second_fills y.second_fills) in
     proof_agree d e (x.lines ∙ ap (λ (ms : List Move). lines_by ms x.second_moves x.steps) a ∙ ap (λ (ms : List Move). lines_by y.first_moves ms x.steps) b ∙ ap (λ (ss : List Step). lines_by y.first_moves y.second_moves ss) s ∙ sym y.lines)
 
+kept_not_passed : (S : PathSum) (ms ns : List Move) (e : Overrun) → kept S ms ≡ passed e ns → ⊥
+kept_not_passed S ms ns e h = cc
+
+derived_yes : (n : ℕ) (A B : List Prim) (d : Derivation) {ss : List Step} {f : Finding} → IsDerivation n A B d → Settles n A B ss f → yes ≡ f
+derived_yes n A B d x (early {e = e} p) = absurd (kept_not_passed x.first x.first_moves p.moves e (fills_only x.first_fills p.fills))
+derived_yes n A B d x (compared {steps = ss} {finding = f} k) =
+    (compares_one n A B (kept x.first x.first_moves) (kept x.second x.second_moves) k.first k.second x.steps ss yes f x.first_fills x.second_fills x.compares k.first_fills k.second_fills k.compares).1
+
 derivation_or_other : (n : ℕ) (A B : List Prim) (d : Derivation) (a : Answer) → IsDerivation n A B d → IsVerdict n A B a → a ≢ Yes → ⊥
-derivation_or_other n A B d a x v h =
-    let k = v.decided in
-    let f = (compares_one n A B (kept x.first x.first_moves) (kept x.second x.second_moves) k.first k.second x.steps v.steps yes v.finding x.first_fills x.second_fills x.compares k.first_fills k.second_fills k.compares).1 in
-    h (says_yes_only n v.finding a (sym f) v.told)
+derivation_or_other n A B d a x v h = h (says_yes_only n v.finding a (sym (derived_yes n A B d x v.decided)) v.told)
 
 proves_one : (n : ℕ) (A B : List Prim) (a b : Answer) → Proves n A B a → Proves n A B b → Agree a b
 proves_one n A B a b (derived {d = d} x) (derived {d = e} y) = derivation_one n A B d e x y

@@ -18,12 +18,13 @@ use Rattle.ps_reach.specs.declared.verdict.Verdict.{Verdict}
 use Rattle.ps_reach.specs.declared.verdict.Verdict.TheVariants as verdict
 use Rattle.ps_reach.specs.Runs.{prims_of, run_of}
 use Rattle.ps_reach.specs.Fillings.{Outcome, Fills, kept}
-use Rattle.ps_reach.specs.Findings.{Finding, yes, Compares, first_limit, second_limit, sums, IsJustified}
-use Rattle.ps_reach.specs.Parts.{outcome_by}
+use Rattle.ps_reach.specs.Findings.{Finding, yes, limit, Compares, first_limit, second_limit, sums, IsJustified}
+use Rattle.ps_reach.specs.Overruns.{Overrun}
+use Rattle.ps_reach.specs.Parts.{overrun_of, outcome_by}
 use Rattle.ps_reach.specs.Judging.{finding_of, outcome_of}
 use Rattle.ps_reach.proofs.Denoting.{within_both}
 use Rattle.ps_reach.proofs.FillsOnce.{fills_only}
-use Rattle.ps_normal.specs.Comparing.{Decides}
+use Rattle.ps_normal.specs.Comparing.{Decides, PassesFirst, IsBoth, early, both}
 use Rattle.ps_normal.specs.Deriving.{derivation_of, Derives}
 use Rattle.ps_normal.specs.Fillings.{CanRun, IsRecordOf}
 use Rattle.ps_steps.specs.declared.derivation.Derivation.{Derivation}
@@ -129,7 +130,16 @@ prims_all items i prims lists h e w = w ∙ ap (λ (l : List Item). run_of (map 
 
 -- ---- the verdict of the items is that of the prims
 pub verdict_told : (n : ℕ) (A B : List Prim) (ss : List Step) (v : Verdict) (a : Answer) → Decides n A B ss (finding_of v) → Says n (finding_of v) a → IsVerdict n A B a
-verdict_told n A B ss v a d s = record { steps = ss; finding = finding_of v; decided = d; told = s }
+verdict_told n A B ss v a d s = record { steps = ss; finding = finding_of v; decided = both d; told = s }
+
+pub passed_verdict : (n : ℕ) (A B : List Prim) (e : Evidence) → PassesFirst n A (overrun_of e) → IsVerdict n A B (Passed e.passed)
+passed_verdict n A B e p = record { steps = []; finding = limit (overrun_of e); decided = early p; told = says_passed refl }
+
+not_yes : (p : Limit) → Passed p ≢ Yes
+not_yes p e = cc
+
+pub passed_proves : (n : ℕ) (A B : List Prim) (e : Evidence) → PassesFirst n A (overrun_of e) → Proves n A B (Passed e.passed)
+passed_proves n A B e p = other (passed_verdict n A B e p) (not_yes e.passed)
 
 -- ---- derivations
 -- what a record with a yes came to

@@ -6,7 +6,7 @@ use Rattle.ps_sum.specs.declared.faults.Passed.{Passed as Limit}
 use Rattle.ps_rules.specs.declared.steps.Step.{Step}
 use Rattle.ps_reach.specs.Overruns.{Overrun}
 use Rattle.ps_reach.specs.Findings.{Finding, yes, no, stuck, limit}
-use Rattle.ps_normal.specs.Comparing.{Decides}
+use Rattle.ps_normal.specs.Comparing.{Settles}
 use Rattle.pathsum.specs.declared.input.Input.{Input}
 use Rattle.pathsum.specs.declared.answer.Answer.{Answer}
 use Rattle.pathsum.specs.declared.answer.Answer.TheVariants.{Yes, No, Stuck, Passed}
@@ -18,10 +18,10 @@ pub data Says (n : ℕ) : Finding → Answer → Type 0 where
   says_stuck : {S : PathSum} → Says n (stuck S) (Stuck S)
   says_passed : {e : Overrun} {passed : Limit} → passed ≡ e.passed → Says n (limit e) (Passed passed)
 
--- each list is filled from its first prim on, comparing what they come to finds this, which is justified for the two
--- lists, and the answer tells it
+-- each list is filled from its first prim on, the second where the first passes no limit; comparing what they come to finds
+-- this, which is justified for the two lists, and the answer tells it
 pub record IsVerdict (n : ℕ) (A B : List Prim) (answer : Answer) : Type 0 where
   pub steps : List Step
   pub finding : Finding
-  pub decided : Decides n A B steps finding
+  pub decided : Settles n A B steps finding
   pub told : Says n finding answer

@@ -1,12 +1,11 @@
 //! The answers to two circuits.
 
-ghost use Rattle.std.specs.Prelude.{◌≡◌, ◌*◌, ◌≤◌, ◌↔◌, length, IsTrue, IfOk};
+ghost use Rattle.std.specs.Prelude.{◌≡◌, ◌*◌, ◌≤◌, ◌↔◌, List, length, IsTrue, IfOk};
+ghost use Rattle.ps_prim.specs.declared.prims.Primitive.{Primitive as Prim};
 ghost use Rattle.ps_reach.specs.Runs.{run_of};
 ghost use Rattle.ps_reach.specs.Judging.{finding_of};
-ghost use Rattle.ps_reach.specs.Fillings.{Fills};
 ghost use Rattle.ps_reach.specs.declared.verdict.Verdict.TheVariants.{Yes};
-ghost use Rattle.ps_normal.specs.Comparing.{Decides};
-ghost use Rattle.ps_normal.specs.Fillings.{IsRecordOf};
+ghost use Rattle.ps_normal.specs.Comparing.{IsBoth, IsDecision};
 ghost use Rattle.pathsum.specs.Verdicts.{Says, IsVerdict};
 ghost use Rattle.pathsum.specs.Proofs.{Proves, Echoes, IsReplay, Works};
 
@@ -14,7 +13,7 @@ use super::answer::Answer;
 use super::commands::Command;
 use super::input::Input;
 use super::pair::Pair;
-use ps_normal::{derive, same_gates};
+use ps_normal::{Decision, derive};
 use ps_prim::Prim;
 use ps_reach::{Items, Judged, Verdict};
 use ps_replay::{Replayed, replay};
@@ -43,8 +42,10 @@ fn decide(alloc: Global, pair: Pair) -> Result<Answer, AllocError>
     ensures { IfOk result (IsVerdict pair.qubits (run_of pair.first) (run_of pair.second)) }
 {
     let qubits = pair.qubits;
-    let judged = compared(alloc, pair)?;
-    Ok(told(qubits, judged.verdict))
+    match decided(alloc, pair)? {
+        Decision::Judged(judged) => Ok(told(qubits, judged.verdict)),
+        Decision::Passed(evidence) => Ok(Answer::Passed(evidence.passed)),
+    }
 }
 
 // The derivation that two circuits are one linear map, or what else was found.
@@ -52,7 +53,17 @@ fn prove(alloc: Global, pair: Pair) -> Result<Answer, AllocError>
     ensures { IfOk result (Proves pair.qubits (run_of pair.first) (run_of pair.second)) }
 {
     let qubits = pair.qubits;
-    let judged = compared(alloc, pair)?;
+    match decided(alloc, pair)? {
+        Decision::Judged(judged) => derived(alloc, qubits, judged),
+        Decision::Passed(evidence) => Ok(Answer::Passed(evidence.passed)),
+    }
+}
+
+// The derivation of a yes, or what else was found.
+fn derived(alloc: Global, qubits: u32, judged: Judged) -> Result<Answer, AllocError>
+    requires { qubits ≤ 64 }
+    ensures { IfOk result (λ a. (first second : List (List Prim)) → IsBoth qubits first second judged → Proves qubits (run_of first) (run_of second) a) }
+{
     if is_yes(&judged.verdict) {
         Ok(Answer::Proof(derive(alloc, &judged)?))
     } else {
@@ -71,16 +82,14 @@ fn replay_document(alloc: Global, pair: &Pair, document: &[u8]) -> Result<Answer
     Ok(echoed(replayed))
 }
 
-// What comparing two circuits finds.
-fn compared(alloc: Global, pair: Pair) -> Result<Judged, AllocError>
-    ensures decided { IfOk result (λ j. Decides pair.qubits (run_of pair.first) (run_of pair.second) j.steps (finding_of j.verdict)) }
-    ensures first_record { IfOk result (λ j. IsRecordOf pair.qubits pair.first (Fills pair.qubits (run_of pair.first)) j.first.value) }
-    ensures second_record { IfOk result (λ j. IsRecordOf pair.qubits pair.second (Fills pair.qubits (run_of pair.second)) j.second.value) }
+// What two circuits come to.
+fn decided(alloc: Global, pair: Pair) -> Result<Decision, AllocError>
+    ensures { IfOk result (IsDecision pair.qubits pair.first pair.second) }
 {
     let qubits = pair.qubits;
     let first = Arc::new(alloc, shared(alloc, pair.first)?)?;
     let second = Arc::new(alloc, shared(alloc, pair.second)?)?;
-    same_gates(alloc, &first, &second, qubits)
+    ps_normal::decide(alloc, &first, &second, qubits)
 }
 
 // The items, each shared.

@@ -1,5 +1,5 @@
 -- What comparing finds.
-use Rattle.std.proofs.Common.{◌≡◌, ℕ, ◌+◌, ◌*◌, ◌<◌, ◌≤◌, refl, ap, sym, ◌∙◌, subst, arith, Option, Some, None, List, [], ◌∷◌, length}
+use Rattle.std.proofs.Common.{◌≡◌, ℕ, ◌+◌, ◌-◌, ◌*◌, ◌<◌, ◌≤◌, refl, ap, sym, ◌∙◌, subst, arith, Option, Some, None, List, [], ◌∷◌, length, take}
 use Rattle.std.proofs.lemmas.Int.{ints}
 use Rattle.std.proofs.lemmas.Bool.Decides.{nat_tests}
 use Rattle.std.specs.Prelude.{pos, negsuc, ◌+ℤ◌, ◌-ℤ◌, ◌≤ℤ◌, Bool, true, false, nat_eq, IsTrue, IsNone}
@@ -20,9 +20,10 @@ use Rattle.ps_overlap.specs.Faults.{IsOverlapFault}
 use Rattle.ps_reach.specs.declared.evidence.Evidence.{Evidence}
 use Rattle.ps_reach.specs.declared.evidence.Body.TheVariants as body
 use Rattle.ps_reach.specs.declared.record.Record.{Record}
+use Rattle.ps_reach.specs.declared.judged.Judged.{Judged}
 use Rattle.ps_reach.specs.declared.verdict.Verdict.{Verdict}
 use Rattle.ps_reach.specs.declared.verdict.Verdict.TheVariants as verdict
-use Rattle.ps_reach.specs.Overruns.{Overrun}
+use Rattle.ps_reach.specs.Overruns.{Overrun, part, IsOver}
 use Rattle.ps_reach.specs.Runs.{AllItems, run_of}
 use Rattle.ps_reach.specs.Parts.{IsRight, overrun_of, outcome_by}
 use Rattle.ps_reach.specs.Fillings.{kept, passed, overrun, Fills}
@@ -31,12 +32,12 @@ use Rattle.ps_reach.specs.Judging.{outcome_of, finding_of, IsJudged}
 use Rattle.ps_reach.proofs.Reducing.{reduces_width}
 use Rattle.ps_reach.proofs.Denoting.{turns_few}
 use Rattle.ps_reach.proofs.Replaying.{length_both}
-use Rattle.ps_reach.proofs.Filling.{fills_right}
+use Rattle.ps_reach.proofs.Filling.{take_whole, fills_right}
 use Rattle.ps_normal.specs.declared.parts.Ended.{Ended}
 use Rattle.ps_normal.specs.declared.parts.Ended.TheVariants as ended
 use Rattle.ps_normal.specs.declared.comparing.Found.{Found}
 use Rattle.ps_normal.specs.Ends.{IsEnded}
-use Rattle.ps_normal.specs.Comparing.{Comparable, Decides}
+use Rattle.ps_normal.specs.Comparing.{Comparable, Decides, PassesFirst, IsBoth}
 use Rattle.ps_normal.specs.Fillings.{CanRun, IsRecordOf}
 use Rattle.ps_normal.specs.Founds.{Finds}
 use Rattle.ps_normal.specs.Founds as founds
@@ -156,4 +157,27 @@ judged_decides n A B first second ss f a b p q c = record {
   second_fills = q.outcome;
   compares = c;
   justified = compares_justified n (run_of A) (run_of B) (fills_right (run_of A) p.outcome) (fills_right (run_of B) q.outcome) a.within b.within c;
+}
+
+-- ---- decided
+whole_run : (A : List Prim) → part 0 (length A) A ≡ A
+whole_run A =
+    let e : length A - 0 ≡ length A = omega arith in
+    ap (λ k. take k A) e ∙ take_whole A
+
+pub first_passes : (n : ℕ) (I : List (List Prim)) (r : Record) (e : Evidence) → IsRecordOf n I (Fills n (run_of I)) r → outcome_of r ≡ passed (overrun_of e) r.moves → PassesFirst n (run_of I) (overrun_of e)
+first_passes n I r e p h =
+    let f : Fills n (run_of I) (passed (overrun_of e) r.moves) = subst (Fills n (run_of I)) h p.outcome in
+    record {
+      moves = r.moves;
+      fills = f;
+      over = record { from = 0; to = length (run_of I); over = subst (λ B. IsOver n B (overrun_of e)) (sym (whole_run (run_of I))) (fills_right (run_of I) f) };
+    }
+
+pub both_judged : (n : ℕ) (I K : List (List Prim)) (before behind : Record) (j : Judged) → CanRun n I → CanRun n K → IsRecordOf n I (Fills n (run_of I)) before → IsRecordOf n K (Fills n (run_of K)) behind
+    → (j.first.value ≡ before) × (j.second.value ≡ behind) → Compares (outcome_of before) (outcome_of behind) j.steps (finding_of j.verdict) → IsBoth n I K j
+both_judged n I K before behind j a b p q e c = record {
+  decided = judged_decides n I K before behind j.steps (finding_of j.verdict) a b p q c;
+  first_record = subst (IsRecordOf n I (Fills n (run_of I))) (sym e.0) p;
+  second_record = subst (IsRecordOf n K (Fills n (run_of K))) (sym e.1) q;
 }

@@ -1,6 +1,7 @@
 //! Whether two segments are one linear map.
 
-ghost use Rattle.std.specs.Prelude.{◌≡◌, ◌≤◌, ◌<◌, ◌↔◌, [], length, IsTrue, IfOk, OnOk};
+ghost use Rattle.std.specs.Prelude.{◌≡◌, ◌≤◌, ◌<◌, ◌↔◌, List, [], length, IsTrue, IfOk, IfSome, OnOk};
+ghost use Rattle.ps_prim.specs.declared.prims.Primitive.{Primitive as Prim};
 ghost use Rattle.ps_reach.specs.Runs.{run_of};
 ghost use Rattle.ps_reach.specs.Parts.{held, overrun_of};
 ghost use Rattle.ps_reach.specs.Judging.{outcome_of, finding_of};
@@ -8,12 +9,13 @@ ghost use Rattle.ps_reach.specs.Reductions.{ReducesTo, normal};
 ghost use Rattle.ps_reach.specs.Findings.{IsUnit, Shows, Overlaps, Compares, limit as limit_of};
 ghost use Rattle.ps_overlap.specs.Overlapping.{IsOverlapOf};
 ghost use Rattle.ps_normal.specs.Ends.{IsEnded};
-ghost use Rattle.ps_reach.specs.Fillings.{Fills};
+ghost use Rattle.ps_reach.specs.Fillings.{Fills, passed};
 ghost use Rattle.ps_normal.specs.Keeping.{IsTable};
 ghost use Rattle.ps_normal.specs.Fillings.{CanRun, IsRecordOf};
-ghost use Rattle.ps_normal.specs.Comparing.{HasFloor, Comparable, Decides};
+ghost use Rattle.ps_normal.specs.Comparing.{HasFloor, Comparable, Decides, IsBoth, IsDecision};
 ghost use Rattle.ps_normal.specs.Founds.{IsFound};
 
+use super::decision::Decision;
 use super::evidences::{evidence, shared_evidence};
 use super::filled::Filled;
 use super::filling::fill_with;
@@ -223,6 +225,26 @@ fn filled(
     }
 }
 
+// The record of the first segment beside that of the second, which is filled, compared.
+fn judged_with(
+    alloc: Global,
+    n: u32,
+    before: Record,
+    second: &Arc<Items>,
+    work: &mut Workspace,
+) -> Result<Judged, AllocError>
+    requires width { (1 ≤ n) × (n ≤ 64) }
+    requires qubits { before.n ≡ n }
+    requires second { CanRun n second.now.value }
+    requires table { IsTable n work.old.leaves.items }
+    ensures { IfOk result (λ j. (items : List (List Prim)) → CanRun n items → IsRecordOf n items (Fills n (run_of items)) before → IsBoth n items second.now.value j) }
+{
+    let before = Arc::new(alloc, before)?;
+    let behind = Arc::new(alloc, filled(alloc, n, second, work)?)?;
+    let judged = compare(alloc, &before, &behind)?;
+    Ok(judged)
+}
+
 /// Whether two segments on `n` qubits are one linear map: each is filled as one run of items, and the
 /// two records are compared. `AllocError` is want of memory.
 ///
@@ -241,7 +263,40 @@ pub fn same_gates(
     ensures second_record { IfOk result (λ j. IsRecordOf n second.now.value (Fills n (run_of second.now.value)) j.second.value) }
 {
     let mut work = Workspace::new(alloc);
-    let before = Arc::new(alloc, filled(alloc, n, first, &mut work)?)?;
-    let behind = Arc::new(alloc, filled(alloc, n, second, &mut work)?)?;
-    compare(alloc, &before, &behind)
+    let before = filled(alloc, n, first, &mut work)?;
+    judged_with(alloc, n, before, second, &mut work)
+}
+
+// The limit that the record's segment passes, if it does.
+fn passed_limit(record: &Record) -> Result<Option<Evidence>, AllocError>
+    ensures { IfOk result (λ o. IfSome o (λ e. outcome_of record.now ≡ passed (overrun_of e) record.now.moves)) }
+{
+    match &record.body {
+        Body::Passed(evidence) => Ok(Some(same_evidence(evidence)?)),
+        Body::Sum(_) => Ok(None),
+    }
+}
+
+/// `same_gates`, but that the second segment isn't filled where the first passes a limit: then that is
+/// the verdict, whatever the second comes to. `AllocError` is want of memory.
+///
+/// Condition: as for `same_gates`.
+pub fn decide(
+    alloc: Global,
+    first: &Arc<Items>,
+    second: &Arc<Items>,
+    n: u32,
+) -> Result<Decision, AllocError>
+    requires width { (1 ≤ n) × (n ≤ 64) }
+    requires first { CanRun n first.now.value }
+    requires second { CanRun n second.now.value }
+    ensures { IfOk result (IsDecision n first.now.value second.now.value) }
+{
+    let mut work = Workspace::new(alloc);
+    let before = filled(alloc, n, first, &mut work)?;
+    if let Some(evidence) = passed_limit(&before)? {
+        return Ok(Decision::Passed(evidence));
+    }
+    let judged = judged_with(alloc, n, before, second, &mut work)?;
+    Ok(Decision::Judged(judged))
 }

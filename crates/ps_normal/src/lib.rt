@@ -3,6 +3,7 @@
 
 mod children;
 pub mod comparing;
+pub mod decision;
 pub mod derivations;
 mod evidences;
 pub mod filled;
@@ -14,7 +15,8 @@ mod prims;
 mod reduce;
 mod takings;
 
-pub use comparing::{compare, same_gates};
+pub use comparing::{compare, decide, same_gates};
+pub use decision::Decision;
 pub use derivations::derive;
 pub use filled::Filled;
 pub use filling::fill;
