@@ -1,6 +1,6 @@
 -- Variables that no step takes away, gathered.
-use Rattle.std.proofs.Common.{◌≡◌, ℕ, ◌+◌, refl, ap, sym, ◌∙◌, subst, ◌<◌, ◌≤◌, Bool, true, false, ◌||◌, List, [], ◌∷◌, ◌++◌, length, take, get_or}
-use Rattle.std.proofs.lemmas.List.{take_more, take_all}
+use Rattle.std.proofs.Common.{◌≡◌, ℕ, ◌+◌, refl, ap, sym, ◌∙◌, subst, ◌<◌, ◌≤◌, Bool, true, false, ◌||◌, List, [], ◌∷◌, ◌++◌, length, take, drop, get_or}
+use Rattle.std.proofs.lemmas.List.{take_more, take_all, take-append-drop}
 use Rattle.ps_mono.specs.Sets.{stands}
 use Rattle.ps_bool.specs.Polys.{occurs}
 use Rattle.ps_phase.specs.declared.terms.Term.{Term}
@@ -84,3 +84,7 @@ terms_keep outs ts i t old new l e u h = record {
 
 pub terms_end : (outs : List (List (List ℕ))) (g ts : List Term) (i : ℕ) (m : List ℕ) → ts ≡ g → length ts ≤ i → Spoilt outs (take i ts) m → Spoilt outs g m
 terms_end outs g ts i m e l h = subst (λ (r : List Term). Spoilt outs r m) (take_all i ts l ∙ e) h
+
+-- what some of the terms tell of v, all of them do
+pub spoilt_early : (v : ℕ) (outs : List (List (List ℕ))) (g ts : List Term) (i : ℕ) → ts ≡ g → IsSpoilt v outs (take i ts) → IsSpoilt v outs g
+spoilt_early v outs g ts i e h = subst (IsSpoilt v outs) (take-append-drop i ts ∙ e) (spoilt_more v outs (take i ts) (drop i ts) h)

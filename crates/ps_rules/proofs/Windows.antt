@@ -2,7 +2,7 @@
 use Rattle.std.proofs.Common.{◌≡◌, ◌≢◌, ℕ, zero, suc, ◌+◌, ◌-◌, refl, ap, ap₂, sym, ◌∙◌, subst, arith, ◌<◌, ◌≤◌, Bool, true, false, cond, not, nat_eq, ◌&&◌, ◌||◌, List, [], ◌∷◌, ◌++◌, length, take, drop, drop-cons, add-one, drop_of_length-le, set, get_or, ◌⊎◌, inl, inr}
 use Rattle.std.proofs.lemmas.Bool.{cases_eq}
 use Rattle.std.proofs.lemmas.Bool.Decides.{nat_tests}
-use Rattle.std.proofs.lemmas.List.{take_more, take_all, get_or-set_same, get_or-set_other}
+use Rattle.std.proofs.lemmas.List.{take_more, take_all, take-append-drop, get_or-set_same, get_or-set_other}
 use Rattle.std.proofs.Math.ListN.{length-set}
 use Rattle.ps_mono.specs.Sets.{stands, Climbing, Above}
 use Rattle.ps_mono.specs.Lists.{nat_eq_same, nat_eq_other}
@@ -16,7 +16,7 @@ use Rattle.ps_rules.specs.declared.sights.Kind.{Kind}
 use Rattle.ps_rules.specs.declared.sights.Kind.TheVariants.{Free, Halves, Quarter, Other}
 use Rattle.ps_rules.specs.declared.sights.Sight.{Sight}
 use Rattle.ps_rules.specs.Terms.{IsHalf}
-use Rattle.ps_rules.specs.Sights.{in_pair, in_wide, IsQuarter, Partners, SeenAs, Seen, IsFresh, EachSight}
+use Rattle.ps_rules.specs.Sights.{in_pair, in_wide, IsQuarter, IsSpoilt, Partners, SeenAs, Seen, IsFresh, EachSight}
 use Rattle.ps_rules.proofs.Deciding.{get_above, place_stands}
 use Rattle.ps_rules.proofs.Seeing.{off, each_push, in_pair_push, in_wide_push, kept_coefficient, spoilt_more, last_term}
 
@@ -268,6 +268,12 @@ sight_more v outs ts i t old new next p l e s q f h =
 pub sight_skip : (v : ℕ) (outs : List (List (List ℕ))) (ts : List Term) (i : ℕ) (t : Term) (old new : Sight) → i < length ts → t ≡ get_or ts i t → stands v t.mono ≡ false → new ≡ old → Seen v outs (take i ts) old → Seen v outs (take (i + 1) ts) new
 sight_skip v outs ts i t old new l e n q h =
     subst (λ (r : List Term). Seen v outs r new) (sym (more_is ts i t l e)) (subst (Seen v outs (take i ts ++ t ∷ [])) (sym q) (seen_skip v outs (take i ts) t old n h))
+
+-- what some of the terms tell of a variable that no step takes away, all of them do
+pub other_early : (v : ℕ) (outs : List (List (List ℕ))) (g ts : List Term) (i : ℕ) (s : Sight) → s.kind ≡ Other → ts ≡ g → Seen v outs (take i ts) s → Seen v outs g s
+other_early v outs g ts i s k e h =
+    let spoilt = subst (λ x. SeenAs x v outs (take i ts) s.pairs s.wide) k h in
+    subst (λ x. SeenAs x v outs g s.pairs s.wide) (sym k) (subst (IsSpoilt v outs) (take-append-drop i ts ∙ e) (spoilt_more v outs (take i ts) (drop i ts) spoilt))
 
 -- ---- whether a variable stands in an output
 outs_step : (v : ℕ) (fs : List (List (List ℕ))) (i : ℕ) (d : List (List ℕ)) → i < length fs → outs_occur v (drop i fs) ≡ (occurs v (get_or fs i d) || outs_occur v (drop (i + 1) fs))

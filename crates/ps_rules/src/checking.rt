@@ -82,7 +82,8 @@ pub fn sight_of(sum: &PathSum, y: u16) -> Sight
     known_sight(sum, y, spoken)
 }
 
-// The same where it is known whether the variable stands in an output.
+// The same where it is known whether the variable stands in an output. No term is read behind the
+// first that tells that no step takes it away.
 pub fn known_sight(sum: &PathSum, y: u16, spoken: bool) -> Sight
     requires inside { y < sum.now.m }
     requires outputs { spoken ≡ outs_occur (sum.now.n + y) sum.now.outs }
@@ -93,6 +94,9 @@ pub fn known_sight(sum: &PathSum, y: u16, spoken: bool) -> Sight
     for term in sum.phase.terms() {
         if term.mono.contains(v) {
             sight = seen(&sight, term);
+            if let Kind::Other = sight.kind {
+                return sight;
+            }
         }
     }
     sight

@@ -1,6 +1,6 @@
 //! The variables that no step takes away, all at once.
 
-ghost use Rattle.std.specs.Prelude.{◌≡◌, ℕ, true, false, ◌||◌, IsTrue};
+ghost use Rattle.std.specs.Prelude.{◌≡◌, ℕ, ◌≤◌, true, false, ◌||◌, IsTrue};
 ghost use Rattle.ps_mono.specs.Sets.{stands};
 ghost use Rattle.ps_bool.specs.Polys.{occurs};
 ghost use Rattle.ps_sum.specs.Outs.{outs_occur};
@@ -12,18 +12,36 @@ use ps_mono::Bits;
 use ps_phase::Term;
 use ps_sum::PathSum;
 
-// Variables that stand in an output, or in a term that no step at them allows.
+// Variables that stand in an output, or in a term that no step at them allows. No term is read once
+// each path variable is among them.
 pub fn spoilt(sum: &PathSum) -> Bits
     ensures spoilt { (v : ℕ) → stands v result ≡ true → IsSpoilt v sum.now.outs sum.now.phase }
     ensures silent { (v : ℕ) → stands v result ≡ false → outs_occur v sum.now.outs ≡ false }
 {
     let mut out = spoken_in(sum.outs.polys());
+    let mut y = unspoilt_from(&out, sum, 0);
     for term in sum.phase.terms() {
+        if y as u32 == sum.m {
+            return out;
+        }
         if spoils(term) {
             out.add(&term.mono);
+            y = unspoilt_from(&out, sum, y);
         }
     }
     out
+}
+
+// The first path variable from `y` on that is not among these, or how many path variables there are.
+fn unspoilt_from(spoilt: &Bits, sum: &PathSum, y: u16) -> u16
+    ensures { result ≤ sum.now.m }
+{
+    for u in y..sum.m as u16 {
+        if !spoilt.get(sum.n as u16 + u) {
+            return u;
+        }
+    }
+    sum.m as u16
 }
 
 // Whether no step takes a variable of the term away.
