@@ -6,3 +6,5 @@ pub mod Merging
 pub mod Only
 pub mod Pairs
 pub mod Touching
+pub mod PlainSums
+pub mod PlainJoins

@@ -1,39 +1,38 @@
 -- Sums that change one output, behind others.
-use Rattle.std.proofs.Common.{◌≡◌, ◌≢◌, ℕ, zero, suc, ◌+◌, ◌-◌, ◌*◌, ◌%◌, refl, ap, ap₂, sym, ◌∙◌, subst, arith, ◌<◌, ◌≤◌, Bool, true, false, cond, nat_eq, ◌&&◌, ◌||◌, not, List, [], ◌∷◌, length, get_or, set, Option, Some, None, ◌⊎◌, inl, inr}
-use Rattle.std.specs.Prelude.{slice_get, MatchOption}
+use Rattle.std.proofs.Common.{◌≡◌, ◌≢◌, ℕ, zero, suc, ◌+◌, ◌-◌, ◌*◌, refl, ap, ap₂, sym, ◌∙◌, subst, arith, ◌<◌, ◌≤◌, Bool, true, false, nat_eq, ◌&&◌, ◌||◌, not, List, [], ◌∷◌, length, get_or, set, Option, Some, None, ◌⊎◌, inl, inr}
+use Rattle.std.specs.Prelude.{slice_get}
 use Rattle.std.proofs.lemmas.Bool.{cases_eq, cases_lt}
 use Rattle.std.proofs.lemmas.List.{get_or_default, get_or-set_same, get_or-set_other, length-set}
 use Rattle.ps_mono.specs.Sets.{holds, stands, IsVarSet}
 use Rattle.ps_mono.specs.Lists.{members_empty, nat_eq_same}
-use Rattle.ps_mono.specs.Truth.{differ, with_value}
+use Rattle.ps_mono.specs.Truth.{differ}
 use Rattle.ps_ring.specs.Readings.{Assignment, second_name}
 use Rattle.ps_bool.specs.Polys.{bool_value, occurs, IsPoly}
 use Rattle.ps_bool.specs.Merging.{merge}
 use Rattle.ps_bool.proofs.Merges.{merge_value, merge_poly}
 use Rattle.ps_bool.proofs.Laws.{bool_value-var}
 use Rattle.ps_phase.specs.declared.terms.Term.{Term}
-use Rattle.ps_phase.specs.Phases.{phase_value, phase_occurs, IsPhasePoly}
-use Rattle.ps_phase.proofs.Adding.{neither, no_or}
-use Rattle.ps_sum.specs.Counts.{raw_phase, raw_bool}
+use Rattle.ps_phase.specs.Phases.{phase_value, phase_occurs}
+use Rattle.ps_phase.proofs.Adding.{no_or}
+use Rattle.ps_sum.specs.Counts.{raw_phase}
 use Rattle.ps_sum.specs.Forms.{AllPolys}
 use Rattle.ps_sum.specs.Outs.{outs_occur}
 use Rattle.ps_sum.specs.declared.sums.PathSum.{PathSum}
 use Rattle.ps_join.specs.declared.changes.Change.{Change}
 use Rattle.ps_join.specs.declared.changes.Change.TheVariants.{Stay, Path, Flip, Sum, More}
-use Rattle.ps_join.specs.Joining.{Chain, PhaseAfter, BoolAfter, PhaseNamed, BoolNamed, PhaseChain, OutputChain, OutputChains, JoinFits}
-use Rattle.ps_join.specs.Naming.{Agrees}
-use Rattle.ps_join.specs.Parts.{PhasePart, BoolPart, OutputPart, OutputParts, Placed, chosen, IsPair}
+use Rattle.ps_join.specs.Joining.{PhaseAfter, PhaseNamed, BoolNamed, PhaseChain, OutputChain, OutputChains, JoinFits}
+use Rattle.ps_join.specs.Parts.{PhasePart, BoolPart, OutputPart, OutputParts, Placed, chosen}
 use Rattle.ps_join.specs.Changing.{OthersStay, OneIs, IsChange, IsKind, OnlyInput, AllShort, Becomes, put_output}
-use Rattle.ps_join.proofs.Outputs.{get_value, get_free, get_poly, var_poly, var_free}
+use Rattle.ps_join.proofs.Outputs.{get_value, get_free, var_poly, var_free}
 use Rattle.ps_join.proofs.NamedParts.{name_front, name_back}
-use Rattle.ps_join.proofs.Chains.{PhaseLoop, phase_start, phase_step, phase_part, phase_fits, idle_phase, idle_phase_count, idle_variables, idle_chain, kept_fits, never, output_below}
+use Rattle.ps_join.proofs.Chains.{PhaseLoop, phase_start, phase_step, idle_phase, idle_phase_count, idle_variables, idle_chain, kept_fits, never}
 use Rattle.ps_join.proofs.Merging.{Outputs, outputs_made}
-use Rattle.ps_join.proofs.Pairs.{half_chain, pair_fits, pair_part, one_variable}
+use Rattle.ps_join.proofs.Pairs.{half_chain, pair_fits, one_variable}
 
-here : (fs : List (List (List ℕ))) (i : ℕ) → i < length fs → get_or fs i [] ≡ get_or fs i (get_or fs i [])
+pub here : (fs : List (List (List ℕ))) (i : ℕ) → i < length fs → get_or fs i [] ≡ get_or fs i (get_or fs i [])
 here fs i h = get_or_default fs i [] (get_or fs i []) h
 
-there : (fs : List (List (List ℕ))) (i : ℕ) (f : List (List ℕ)) → i < length fs → f ≡ get_or fs i f → f ≡ get_or fs i []
+pub there : (fs : List (List (List ℕ))) (i : ℕ) (f : List (List ℕ)) → i < length fs → f ≡ get_or fs i f → f ≡ get_or fs i []
 there fs i f h e = e ∙ get_or_default fs i f [] h
 
 -- ---- the phase, where at most one input stands in it
@@ -77,7 +76,7 @@ no_phase n m1 m2 fs p r w b e d =
     subst (λ (x : List Term). PhaseLoop n m1 m2 fs x n r) (sym (no_terms p e)) (subst (λ (x : List Term). PhaseLoop n m1 m2 fs [] n x) (sym d) (empty_loop n m1 m2 fs w b))
 
 -- ---- outputs
-stay_fits : (n m1 m2 i : ℕ) (fs : List (List (List ℕ))) (g : List (List ℕ)) → i < n → length fs ≡ n → n + n + m1 + m2 ≤ 512 → AllPolys fs → ((v : ℕ) → n + m1 ≤ v → outs_occur v fs ≡ false) → AllShort fs → g ≡ (i ∷ []) ∷ [] → OutputChain n m1 m2 fs g None
+pub stay_fits : (n m1 m2 i : ℕ) (fs : List (List (List ℕ))) (g : List (List ℕ)) → i < n → length fs ≡ n → n + n + m1 + m2 ≤ 512 → AllPolys fs → ((v : ℕ) → n + m1 ≤ v → outs_occur v fs ≡ false) → AllShort fs → g ≡ (i ∷ []) ∷ [] → OutputChain n m1 m2 fs g None
 stay_fits n m1 m2 i fs g h w r p b s e = kept_fits n m1 m2 i fs (get_or fs i []) g h w r (here fs i (omega (arith, w, h))) p b e (omega (arith, s i (omega (arith, w, h))))
 
 path_named : (n m1 m2 y : ℕ) → n ≤ y → y + m1 < 512 → BoolNamed n m1 m2 ((y ∷ []) ∷ []) (((y + m1) ∷ []) ∷ [])
@@ -168,12 +167,12 @@ pub path_below : (n m2 q y : ℕ) (gs : List (List (List ℕ))) → q < length g
 path_below n m2 q y gs h e f = y_below (n + m2) y (λ v l. sym (ap (occurs v) e) ∙ get_free gs q [] v h (f v l))
 
 -- ---- all outputs fit
-each_fits : (n m1 m2 : ℕ) (fs gs : List (List (List ℕ))) → ((i : ℕ) → i < length gs → OutputChain n m1 m2 fs (get_or gs i []) None) → OutputChains n m1 m2 fs gs None
+pub each_fits : (n m1 m2 : ℕ) (fs gs : List (List (List ℕ))) → ((i : ℕ) → i < length gs → OutputChain n m1 m2 fs (get_or gs i []) None) → OutputChains n m1 m2 fs gs None
 each_fits n m1 m2 fs [] f = refl
 each_fits n m1 m2 fs (g ∷ gs) f = inr (f 0 (omega arith), each_fits n m1 m2 fs gs (λ i h. f (suc i) (omega (arith, h))))
 
 -- one output, and those that stay
-one_fits : (n m1 m2 q : ℕ) (fs gs : List (List (List ℕ))) (g : List (List ℕ)) → length gs ≡ n → length fs ≡ n → n + n + m1 + m2 ≤ 512 → AllPolys fs → ((v : ℕ) → n + m1 ≤ v → outs_occur v fs ≡ false) → AllShort fs → OneIs q gs g → OutputChain n m1 m2 fs g None → OutputChains n m1 m2 fs gs None
+pub one_fits : (n m1 m2 q : ℕ) (fs gs : List (List (List ℕ))) (g : List (List ℕ)) → length gs ≡ n → length fs ≡ n → n + n + m1 + m2 ≤ 512 → AllPolys fs → ((v : ℕ) → n + m1 ≤ v → outs_occur v fs ≡ false) → AllShort fs → OneIs q gs g → OutputChain n m1 m2 fs g None → OutputChains n m1 m2 fs gs None
 one_fits n m1 m2 q fs gs g x w r p b s o c = each_fits n m1 m2 fs gs (λ i h. by i h (cases_eq i q))
   where
     by : (i : ℕ) → i < length gs → ((i ≡ q) ⊎ (i ≡ q → ⊥)) → OutputChain n m1 m2 fs (get_or gs i []) None

@@ -6,3 +6,4 @@ pub mod Naming
 pub mod Parts
 pub mod Laws
 pub mod Changing
+pub mod Plainly

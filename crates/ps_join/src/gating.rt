@@ -38,7 +38,7 @@ struct Behind {
 }
 
 // Whether each output is short.
-fn all_short(outs: &[BoolPoly]) -> bool
+pub(crate) fn all_short(outs: &[BoolPoly]) -> bool
     ensures { IsTrue result → AllShort outs.now }
 {
     for output in outs {

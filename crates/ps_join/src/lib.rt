@@ -9,6 +9,7 @@ pub mod laws;
 pub mod leaves;
 mod naming;
 pub mod onto_fault;
+mod plains;
 mod replacing;
 
 pub use gates::Gate;
@@ -16,6 +17,7 @@ pub use gating::join_gate;
 pub use joins::{join, join_onto};
 pub use leaves::{identity, leaf};
 pub use onto_fault::OntoFault;
+pub use plains::join_prim;
 
 #[cfg(test)]
 mod tests;

@@ -1,4 +1,4 @@
-use Rattle.std.proofs.Common.{ℕ, ◌<◌, ◌≤◌, ◌+◌, arith, get_or, [], rules}
+use Rattle.std.proofs.Common.{◌<◌, ◌+◌, arith, get_or, [], rules}
 use Rattle.ps_join.proofs.Pairs.{pair_part}
 use Rattle.ps_join.proofs.Touching.{path_below, path_part, flip_part}
 use Rattle.ps_join.proofs.gating.new_output.Goals as goal
