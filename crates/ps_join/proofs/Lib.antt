@@ -8,3 +8,4 @@ pub mod Pairs
 pub mod Touching
 pub mod PlainSums
 pub mod PlainJoins
+pub mod Totals

@@ -7,3 +7,4 @@ pub mod Parts
 pub mod Laws
 pub mod Changing
 pub mod Plainly
+pub mod Totals

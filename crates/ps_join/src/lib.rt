@@ -11,6 +11,7 @@ mod naming;
 pub mod onto_fault;
 mod plains;
 mod replacing;
+pub mod running;
 
 pub use gates::Gate;
 pub use gating::join_gate;
@@ -18,6 +19,7 @@ pub use joins::{join, join_onto};
 pub use leaves::{identity, leaf};
 pub use onto_fault::OntoFault;
 pub use plains::join_prim;
+pub use running::Running;
 
 #[cfg(test)]
 mod tests;

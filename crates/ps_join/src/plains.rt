@@ -11,19 +11,16 @@ ghost use Rattle.ps_join.specs.Joining.{IsLeafOf, IsJoinOf, JoinFits};
 ghost use Rattle.ps_join.specs.OntoFaults.{IsOntoFault};
 ghost use Rattle.ps_join.specs.Plainly.{IsBehind, IsAdded, IsLift, IsNear};
 
-use super::gating::all_short;
 use super::joins::join_onto;
 use super::leaves::leaf;
 use super::onto_fault::OntoFault;
+use super::running::Running;
 use ps_bool::BoolPoly;
 use ps_phase::PhasePoly;
 use ps_prim::Prim;
 use ps_ring::{Angle, Phase};
 use ps_sum::{Outputs, PathSum, lift, raw_term};
 use std::alloc::{AllocError, Global};
-
-// The most variables that a join may name, the inputs of both sums counted.
-const MOST_VARIABLES: u32 = 512;
 
 // The most terms that one replacement may make, before any are added.
 const MOST_TERMS: u64 = 65_536;
@@ -42,31 +39,8 @@ fn lifted(alloc: Global, poly: &BoolPoly, turn: Phase) -> Result<Option<PhasePol
     Ok(Some(phase))
 }
 
-// The sum with more in its phase.
-fn with_phase(first: PathSum, more: &PhasePoly) -> Result<PathSum, AllocError>
-    requires { (v : ℕ) → first.n + first.m ≤ v → phase_occurs v more.now ≡ false }
-    ensures { IfOk result (λ s. IsAdded first more.now s) }
-{
-    let PathSum {
-        n,
-        m,
-        k,
-        phase,
-        outs,
-    } = first;
-    let mut sum = phase;
-    sum.add_to(more)?;
-    Ok(PathSum {
-        n,
-        m,
-        k,
-        phase: sum,
-        outs,
-    })
-}
-
 // The sum with output `c` added to output `t`.
-fn with_exchange(first: PathSum, c: u32, t: u32) -> Result<PathSum, AllocError>
+pub(crate) fn with_exchange(first: PathSum, c: u32, t: u32) -> Result<PathSum, AllocError>
     requires control { c < length first.outs }
     requires target { t < length first.outs }
     ensures { IfOk result (λ s. IsBehind first (exchanged c t) (λ x. 0) s) }
@@ -90,15 +64,8 @@ fn with_exchange(first: PathSum, c: u32, t: u32) -> Result<PathSum, AllocError>
     })
 }
 
-// Whether no limit is passed where a controlled not comes behind the sum.
-fn is_near(first: &PathSum) -> bool
-    ensures { IsTrue result → IsNear first.now }
-{
-    2 * first.n + first.m <= MOST_VARIABLES && all_short(first.outs.polys())
-}
-
 // By way of the prim's sum.
-fn join_leaf(alloc: Global, first: PathSum, prim: &Prim) -> Result<PathSum, OntoFault>
+fn join_leaf(alloc: Global, first: Running, prim: &Prim) -> Result<Running, OntoFault>
     requires width { (1 ≤ first.n) × (first.n ≤ 64) }
     requires within { IsWithin first.n prim.now }
     requires wide { length first.outs ≡ first.n }
@@ -109,14 +76,20 @@ fn join_leaf(alloc: Global, first: PathSum, prim: &Prim) -> Result<PathSum, Onto
     ensures wide { IfOk result (λ s. length s.outs ≡ first.n) }
     ensures passed { IfErr result (λ e. (S : PathSum) → IsLeafOf first.n prim.now S → IsOntoFault first S e) }
 {
-    match leaf(alloc, prim, first.n) {
-        Ok(second) => join_onto(alloc, first, &second),
-        Err(_) => Err(OntoFault::Memory),
+    let Ok(first) = first.settled() else {
+        return Err(OntoFault::Memory);
+    };
+    let Ok(second) = leaf(alloc, prim, first.n) else {
+        return Err(OntoFault::Memory);
+    };
+    match join_onto(alloc, first, &second) {
+        Ok(sum) => Ok(Running::of(alloc, sum)),
+        Err(fault) => Err(fault),
     }
 }
 
 // A controlled not from qubit `c` to qubit `t`.
-fn join_exchange(first: PathSum, c: u32, t: u32) -> Result<PathSum, OntoFault>
+fn join_exchange(first: Running, c: u32, t: u32) -> Result<Running, OntoFault>
     requires width { (1 ≤ first.n) × (first.n ≤ 64) }
     requires within { IsWithin first.n (Cx c t) }
     requires wide { length first.outs ≡ first.n }
@@ -127,7 +100,7 @@ fn join_exchange(first: PathSum, c: u32, t: u32) -> Result<PathSum, OntoFault>
     ensures wide { IfOk result (λ s. length s.outs ≡ first.n) }
     ensures passed { IfErr result (λ e. (S : PathSum) → IsLeafOf first.n (Cx c t) S → IsOntoFault first S e) }
 {
-    match with_exchange(first, c, t) {
+    match first.exchanged(c, t) {
         Ok(sum) => Ok(sum),
         Err(_) => Err(OntoFault::Memory),
     }
@@ -136,12 +109,12 @@ fn join_exchange(first: PathSum, c: u32, t: u32) -> Result<PathSum, OntoFault>
 // A turn of qubit `q`, which the prim is.
 fn join_turn(
     alloc: Global,
-    first: PathSum,
+    first: Running,
     prim: &Prim,
     phi: Angle,
     lambda: Angle,
     q: u32,
-) -> Result<PathSum, OntoFault>
+) -> Result<Running, OntoFault>
     requires width { (1 ≤ first.n) × (first.n ≤ 64) }
     requires turn { prim.now ≡ U 0 phi lambda q }
     requires within { q < first.n }
@@ -155,8 +128,8 @@ fn join_turn(
     ensures passed { IfErr result (λ e. (S : PathSum) → IsLeafOf first.n prim.now S → IsOntoFault first S e) }
 {
     let turn = phi.whole().add(lambda.whole());
-    match lifted(alloc, &first.outs.polys()[q as usize], turn) {
-        Ok(Some(more)) => match with_phase(first, &more) {
+    match lifted(alloc, first.output(q), turn) {
+        Ok(Some(more)) => match first.added(alloc, &more) {
             Ok(sum) => Ok(sum),
             Err(_) => Err(OntoFault::Memory),
         },
@@ -167,7 +140,7 @@ fn join_turn(
 
 /// `join_onto` for the sum of one gate, which itself is made only where a limit may be passed, or
 /// where it has path variables: a `U` at theta 0 adds to the phase, and a `Cx` changes one output.
-pub fn join_prim(alloc: Global, first: PathSum, prim: &Prim) -> Result<PathSum, OntoFault>
+pub fn join_prim(alloc: Global, first: Running, prim: &Prim) -> Result<Running, OntoFault>
     requires width { (1 ≤ first.n) × (first.n ≤ 64) }
     requires within { IsWithin first.n prim.now }
     requires wide { length first.outs ≡ first.n }
@@ -178,7 +151,7 @@ pub fn join_prim(alloc: Global, first: PathSum, prim: &Prim) -> Result<PathSum, 
     ensures wide { IfOk result (λ s. length s.outs ≡ first.n) }
     ensures passed { IfErr result (λ e. (S : PathSum) → IsLeafOf first.n prim.now S → IsOntoFault first S e) }
 {
-    if !is_near(&first) {
+    if !first.is_near() {
         return join_leaf(alloc, first, prim);
     }
     match *prim {

@@ -1,15 +1,21 @@
-use Rattle.std.proofs.Common.{subst}
-use Rattle.std.proofs.lemmas.Result.{IfOk-weaker, IfErr-weaker, on_ok_weaker}
+use Rattle.std.proofs.Common.{sym, ap, subst}
+use Rattle.ps_sum.specs.declared.sums.PathSum.{PathSum}
 use Rattle.ps_join.specs.Joining.{IsJoinOf, JoinFits}
 use Rattle.ps_join.specs.OntoFaults.{IsOntoFault}
-use Rattle.ps_join.proofs.Only.{leaf_only}
+use Rattle.ps_join.proofs.Totals.{leaf_at}
 use Rattle.ps_join.proofs.plains.join_leaf.Goals as goal
 
-pub returns-in-Ok-clause-sum : goal.returns-in-Ok-clause-sum
-returns-in-Ok-clause-sum c = IfOk-weaker c.join_onto.result _ _ (λ s j S l. subst (λ x. IsJoinOf c.args.first x s) (leaf_only c.args.first.n c.args.prim.now c.in-Ok.second S c.in-Ok.ensures.sum l) j) c.join_onto.ensures.sum
+pub returns-in-Ok-join_onto-clause-sum : goal.returns-in-Ok-join_onto-clause-sum
+returns-in-Ok-join_onto-clause-sum c S l =
+    subst (λ x. IsJoinOf c.args.first x c.of.result) (leaf_at c.in-Ok.first.n c.args.first.n c.args.prim.now c.in-Ok-leaf.second S (ap (λ (s : PathSum). s.n) c.in-Ok.ensures) c.in-Ok-leaf.ensures.sum l)
+    (subst (λ s. IsJoinOf c.args.first c.in-Ok-leaf.second s) (sym c.of.ensures) (subst (λ f. IsJoinOf f c.in-Ok-leaf.second c.in-Ok-join_onto.sum) c.in-Ok.ensures c.in-Ok-join_onto.ensures.sum))
 
-pub returns-in-Ok-clause-fits : goal.returns-in-Ok-clause-fits
-returns-in-Ok-clause-fits c = on_ok_weaker c.join_onto.result (λ j S l. subst (JoinFits c.args.first) (leaf_only c.args.first.n c.args.prim.now c.in-Ok.second S c.in-Ok.ensures.sum l) j) c.join_onto.ensures.fits
+pub returns-in-Ok-join_onto-clause-fits : goal.returns-in-Ok-join_onto-clause-fits
+returns-in-Ok-join_onto-clause-fits c S l =
+    subst (JoinFits c.args.first) (leaf_at c.in-Ok.first.n c.args.first.n c.args.prim.now c.in-Ok-leaf.second S (ap (λ (s : PathSum). s.n) c.in-Ok.ensures) c.in-Ok-leaf.ensures.sum l)
+    (subst (λ f. JoinFits f c.in-Ok-leaf.second) c.in-Ok.ensures c.in-Ok-join_onto.ensures.fits)
 
-pub returns-in-Ok-clause-passed : goal.returns-in-Ok-clause-passed
-returns-in-Ok-clause-passed c = IfErr-weaker c.join_onto.result _ _ (λ e j S l. subst (λ x. IsOntoFault c.args.first x e) (leaf_only c.args.first.n c.args.prim.now c.in-Ok.second S c.in-Ok.ensures.sum l) j) c.join_onto.ensures.passed
+pub returns-clause-passed : goal.returns-clause-passed
+returns-clause-passed c S l =
+    subst (λ x. IsOntoFault c.args.first x c.in-Err.fault) (leaf_at c.in-Ok.first.n c.args.first.n c.args.prim.now c.in-Ok-leaf.second S (ap (λ (s : PathSum). s.n) c.in-Ok.ensures) c.in-Ok-leaf.ensures.sum l)
+    (subst (λ f. IsOntoFault f c.in-Ok-leaf.second c.in-Err.fault) c.in-Ok.ensures c.in-Err.ensures.passed)
