@@ -128,7 +128,7 @@ pub fn new_leaf<S: Stop>(
     match leaf_part(alloc, n, prim, place, moves, steps, stop)? {
         Part::Sum(sum) => Ok(LeafPart::Made(Kept {
             prim: *prim,
-            gate: Gate::of(Arc::new(alloc, sum)?),
+            gate: Gate::of(Arc::new(alloc, sum.settled()?)?),
             steps: Vec::from_slice(alloc, steps)?,
         })),
         Part::Over(evidence) => Ok(LeafPart::Over(evidence)),

@@ -15,7 +15,7 @@ use super::evidences::{evidence, push_moves, shared_evidence};
 use super::parts::{Ended, Part, Places};
 use super::reduce::reduce;
 use ps_io::Stop;
-use ps_join::{Gate, OntoFault, join_gate, leaf};
+use ps_join::{Gate, OntoFault, Running, join_gate, leaf};
 use ps_prim::Prim;
 use ps_rules::{Move, Step};
 use ps_sum::PathSum;
@@ -40,7 +40,7 @@ pub fn ended_part(
     match ended {
         Ended::Normal(sum) => {
             push_moves(moves, first, steps)?;
-            Ok(Part::Sum(sum))
+            Ok(Part::Sum(Running::of(alloc, sum)))
         }
         Ended::Over { passed, sum } => {
             push_moves(moves, first, steps)?;

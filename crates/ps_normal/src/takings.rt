@@ -15,11 +15,10 @@ use super::leaves::{keep, kept_leaf, new_leaf};
 use super::parts::{LeafPart, Part, Places, Taken};
 use super::prims::{is_plain, join_part, leaf_part};
 use ps_io::Stop;
-use ps_join::{OntoFault, join_prim, leaf};
+use ps_join::{OntoFault, Running, join_prim, leaf};
 use ps_prim::Prim;
 use ps_reach::Items;
 use ps_rules::{Move, Step};
-use ps_sum::PathSum;
 use std::alloc::{AllocError, Global};
 
 // A leaf that is kept, behind the sum of the prims before its place.
@@ -27,7 +26,7 @@ fn take_kept<S: Stop>(
     alloc: Global,
     n: u32,
     prim: &Prim,
-    sum: PathSum,
+    sum: Running,
     place: u32,
     kept: &Kept,
     moves: &mut Vec<Move>,
@@ -49,7 +48,7 @@ fn take_kept<S: Stop>(
         middle: place,
         to: place + 1,
     };
-    join_part(alloc, places, sum, &kept.gate, moves, steps, stop)
+    join_part(alloc, places, sum.settled()?, &kept.gate, moves, steps, stop)
 }
 
 // The prim at a place, whose sum has no path variable, behind the sum of those before it. No step applies
@@ -58,7 +57,7 @@ fn take_plain<S: Stop>(
     alloc: Global,
     n: u32,
     prim: &Prim,
-    sum: PathSum,
+    sum: Running,
     place: u32,
     moves: &mut Vec<Move>,
     stop: &mut S,
@@ -100,7 +99,7 @@ fn take_new<S: Stop>(
     alloc: Global,
     n: u32,
     prim: &Prim,
-    sum: PathSum,
+    sum: Running,
     place: u32,
     moves: &mut Vec<Move>,
     work: &mut Workspace,
@@ -143,7 +142,7 @@ fn take_next<S: Stop>(
     alloc: Global,
     n: u32,
     prim: &Prim,
-    sum: PathSum,
+    sum: Running,
     place: u32,
     moves: &mut Vec<Move>,
     work: &mut Workspace,
@@ -187,7 +186,7 @@ fn take_prim<S: Stop>(
     alloc: Global,
     n: u32,
     prim: &Prim,
-    held: Option<PathSum>,
+    held: Option<Running>,
     place: u32,
     moves: &mut Vec<Move>,
     work: &mut Workspace,
@@ -215,7 +214,7 @@ fn take_prims<S: Stop>(
     alloc: Global,
     n: u32,
     prims: &[Prim],
-    held: Option<PathSum>,
+    held: Option<Running>,
     place: u32,
     moves: &mut Vec<Move>,
     work: &mut Workspace,
