@@ -14,6 +14,7 @@ ghost use Rattle.ps_join.specs.Plainly.{IsBehind, IsAdded, IsLift, IsNear};
 use super::gating::all_short;
 use super::joins::join_onto;
 use super::leaves::leaf;
+use super::limits::{MOST_TERMS, MOST_VARIABLES};
 use super::onto_fault::OntoFault;
 use ps_bool::BoolPoly;
 use ps_phase::PhasePoly;
@@ -21,12 +22,6 @@ use ps_prim::Prim;
 use ps_ring::{Angle, Phase};
 use ps_sum::{Outputs, PathSum, lift, raw_term};
 use std::alloc::{AllocError, Global};
-
-// The most variables that a join may name, the inputs of both sums counted.
-const MOST_VARIABLES: u32 = 512;
-
-// The most terms that one replacement may make, before any are added.
-const MOST_TERMS: u64 = 65_536;
 
 // The phase `turn` where the polynomial is 1; `None` where it may be that a limit is passed.
 fn lifted(alloc: Global, poly: &BoolPoly, turn: Phase) -> Result<Option<PhasePoly>, AllocError>
