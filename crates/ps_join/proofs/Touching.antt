@@ -19,7 +19,7 @@ use Rattle.ps_sum.specs.Forms.{AllPolys}
 use Rattle.ps_sum.specs.Outs.{outs_occur}
 use Rattle.ps_sum.specs.declared.sums.PathSum.{PathSum}
 use Rattle.ps_join.specs.declared.changes.Change.{Change}
-use Rattle.ps_join.specs.declared.changes.Change.TheVariants.{Stay, Path, Flip, Sum, More}
+use Rattle.ps_join.specs.declared.changes.Change.TheVariants.{Stay, Path, Flip, More}
 use Rattle.ps_join.specs.Joining.{PhaseAfter, PhaseNamed, BoolNamed, PhaseChain, OutputChain, OutputChains, JoinFits}
 use Rattle.ps_join.specs.Parts.{PhasePart, BoolPart, OutputPart, OutputParts, Placed, chosen}
 use Rattle.ps_join.specs.Changing.{OthersStay, OneIs, IsChange, IsKind, OnlyInput, AllShort, Becomes, put_output}
@@ -27,7 +27,7 @@ use Rattle.ps_join.proofs.Outputs.{get_value, get_free, var_poly, var_free}
 use Rattle.ps_join.proofs.NamedParts.{name_front, name_back}
 use Rattle.ps_join.proofs.Chains.{PhaseLoop, phase_start, phase_step, idle_phase, idle_phase_count, idle_variables, idle_chain, kept_fits, never}
 use Rattle.ps_join.proofs.Merging.{Outputs, outputs_made}
-use Rattle.ps_join.proofs.Pairs.{half_chain, pair_fits, one_variable}
+use Rattle.ps_join.proofs.Pairs.{half_chain, one_variable}
 
 pub here : (fs : List (List (List ℕ))) (i : ℕ) → i < length fs → get_or fs i [] ≡ get_or fs i (get_or fs i [])
 here fs i h = get_or_default fs i [] (get_or fs i []) h
@@ -186,12 +186,6 @@ changes_fit n m1 m2 fs gs (Path q y) k d x w r p b l s =
     let o = k.path q y refl in
     one_fits n m1 m2 q fs gs ((y ∷ []) ∷ []) x w r p b s o.0 (path_fits n m1 m2 y fs o.1 (path_below n m2 q y gs o.0.0 o.0.1.0 l) r)
 changes_fit n m1 m2 fs gs (Flip q) k d x w r p b l s = let o = k.flip q refl in one_fits n m1 m2 q fs gs ([] ∷ (q ∷ []) ∷ []) x w r p b s o (flip_fits n m1 m2 q fs (omega (arith, o.0, x)) w r p b s)
-changes_fit n m1 m2 fs gs (Sum q i j) k d x w r p b l s =
-    let o = k.sum q i j refl in
-    let first : i < length fs = omega (arith, o.1.0, o.1.1, w) in
-    let second : j < length fs = omega (arith, o.1.1, w) in
-    one_fits n m1 m2 q fs gs ((i ∷ []) ∷ (j ∷ []) ∷ []) x w r p b s o.0
-    (pair_fits n m1 m2 i j fs (get_or fs i []) (get_or fs j []) ((i ∷ []) ∷ (j ∷ []) ∷ []) (refl, (o.1.0, o.1.1)) w r (here fs i first) (here fs j second) p b (s i first) (s j second))
 changes_fit n m1 m2 fs gs More k d x w r p b l s = absurd (d refl)
 
 -- ---- the changed output in its place
@@ -302,7 +296,6 @@ path_kind n q y g e h = record {
   stay = λ t. other t;
   path = λ r z t. let k = same r z t in (k.0, (e ∙ ap (λ x. (x ∷ []) ∷ []) (sym k.1), subst (λ x. n ≤ x) (sym k.1) h));
   flip = λ r t. absurd (another r t);
-  sum = λ r i j t. absurd (third r i j t);
 }
   where
     other : Path q y ≡ Stay → ⊥
@@ -314,15 +307,11 @@ path_kind n q y g e h = record {
     another : (r : ℕ) → Path q y ≡ Flip r → ⊥
     another r t = cc
 
-    third : (r i j : ℕ) → Path q y ≡ Sum r i j → ⊥
-    third r i j t = cc
-
 pub flip_kind : (n q : ℕ) (g : List (List ℕ)) → g ≡ [] ∷ (q ∷ []) ∷ [] → IsKind n q g (Flip q)
 flip_kind n q g e = record {
   stay = λ t. other t;
   path = λ r z t. absurd (another r z t);
   flip = λ r t. let k = same r t in (k, e ∙ ap (λ x. [] ∷ (x ∷ []) ∷ []) (sym k));
-  sum = λ r i j t. absurd (third r i j t);
 }
   where
     other : Flip q ≡ Stay → ⊥
@@ -334,15 +323,11 @@ flip_kind n q g e = record {
     another : (r z : ℕ) → Flip q ≡ Path r z → ⊥
     another r z t = cc
 
-    third : (r i j : ℕ) → Flip q ≡ Sum r i j → ⊥
-    third r i j t = cc
-
 pub kind_change : (n q : ℕ) (gs : List (List (List ℕ))) (g : List (List ℕ)) (c : Change) → q < length gs → g ≡ get_or gs q g → OthersStay q gs → IsKind n q g c → IsChange n gs c
 kind_change n q gs g c h e o k = record {
   stay = λ t. absurd (k.stay t);
   path = λ r y t. let p = k.path r y t in (one r ((y ∷ []) ∷ []) p.0 p.1.0, p.1.1);
   flip = λ r t. let p = k.flip r t in one r ([] ∷ (r ∷ []) ∷ []) p.0 p.1;
-  sum = λ r i j t. let p = k.sum r i j t in (one r ((i ∷ []) ∷ (j ∷ []) ∷ []) p.0 p.1.0, p.1.1);
 }
   where
     one : (r : ℕ) (f : List (List ℕ)) → r ≡ q → g ≡ f → OneIs r gs f

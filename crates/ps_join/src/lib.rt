@@ -7,6 +7,7 @@ mod gating;
 pub mod joins;
 pub mod laws;
 pub mod leaves;
+mod limits;
 mod naming;
 pub mod onto_fault;
 mod plains;

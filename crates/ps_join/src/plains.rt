@@ -13,6 +13,7 @@ ghost use Rattle.ps_join.specs.Plainly.{IsBehind, IsAdded, IsLift, IsNear};
 
 use super::joins::join_onto;
 use super::leaves::leaf;
+use super::limits::MOST_TERMS;
 use super::onto_fault::OntoFault;
 use super::running::Running;
 use ps_bool::BoolPoly;
@@ -21,9 +22,6 @@ use ps_prim::Prim;
 use ps_ring::{Angle, Phase};
 use ps_sum::{Outputs, PathSum, lift, raw_term};
 use std::alloc::{AllocError, Global};
-
-// The most terms that one replacement may make, before any are added.
-const MOST_TERMS: u64 = 65_536;
 
 // The phase `turn` where the polynomial is 1; `None` where it may be that a limit is passed.
 fn lifted(alloc: Global, poly: &BoolPoly, turn: Phase) -> Result<Option<PhasePoly>, AllocError>

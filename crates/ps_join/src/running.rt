@@ -8,15 +8,13 @@ ghost use Rattle.ps_join.specs.Plainly.{IsBehind, IsAdded, IsNear};
 ghost use Rattle.ps_join.specs.Totals.{IsNamed};
 
 use super::gating::all_short;
+use super::limits::MOST_VARIABLES;
 use super::plains::with_exchange;
 use ps_bool::BoolPoly;
 use ps_phase::PhasePoly;
 use ps_sum::{Outputs, PathSum};
 use std::alloc::{AllocError, Global};
 use std::marker::Model;
-
-// The most variables that a join may name, the inputs of both sums counted.
-const MOST_VARIABLES: u32 = 512;
 
 // So many terms may wait beside a sum without any.
 const FEW: u64 = 16;
