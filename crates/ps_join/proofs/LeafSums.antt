@@ -53,7 +53,7 @@ inputs_taken n outs a e = ap (λ o. values o a) e ∙ inputs_values 0 n a
 changed_taken : (n i : ℕ) (outs : List (List (List ℕ))) (f : List (List ℕ)) (a : Assignment) → outs ≡ inputs_from 0 n → values (set outs i f) a ≡ set (taken 0 n a) i (bool_value f a)
 changed_taken n i outs f a e = set_values outs i f a ∙ ap (λ (w : Truths). set w i (bool_value f a)) (inputs_taken n outs a e)
 
-at_taken : (n q : ℕ) (a : Assignment) → q < n → bit (taken 0 n a) q ≡ a q
+pub at_taken : (n q : ℕ) (a : Assignment) → q < n → bit (taken 0 n a) q ≡ a q
 at_taken n q a h = bit_taken 0 n q a h ∙ ap a (omega arith)
 
 -- ---- sums without path variables
@@ -96,7 +96,7 @@ unfolding flipped
 flipped_is true t z = ap (set z t) (not_is (bit z t))
 flipped_is false t z = sym (ap (set z t) (differ_none (bit z t)) ∙ set-get_or z t false)
 
-exchanged_is : (c t : ℕ) (z : Truths) → exchanged c t z ≡ set z t (differ (bit z t) (bit z c))
+pub exchanged_is : (c t : ℕ) (z : Truths) → exchanged c t z ≡ set z t (differ (bit z t) (bit z c))
 unfolding exchanged
 exchanged_is c t z = flipped_is (bit z c) t z
 

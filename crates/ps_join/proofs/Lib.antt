@@ -6,3 +6,6 @@ pub mod Merging
 pub mod Only
 pub mod Pairs
 pub mod Touching
+pub mod PlainSums
+pub mod PlainJoins
+pub mod Totals

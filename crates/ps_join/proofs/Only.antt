@@ -16,7 +16,7 @@ use Rattle.ps_join.specs.Joining.{PhaseAfter, BoolAfter, told, Chain, PhaseChain
 use Rattle.ps_join.specs.Laws.{OneLeaf, OneIdentity, OneJoin, OnePassed, FitsOrPasses}
 
 -- ---- one sum
-none_of : (y : Truths) → length y ≡ 0 → y ≡ []
+pub none_of : (y : Truths) → length y ≡ 0 → y ≡ []
 none_of [] h = refl
 none_of (b ∷ y) h = absurd (omega arith)
 

@@ -12,7 +12,7 @@ use Rattle.ps_sum.specs.Outs.{values, outs_occur}
 use Rattle.ps_join.specs.Inputs.{inputs_from}
 
 -- ---- one variable
-own_stands : (q : ℕ) → stands q (q ∷ []) ≡ true
+pub own_stands : (q : ℕ) → stands q (q ∷ []) ≡ true
 unfolding stands
 own_stands q = ap (λ b. b || false) (nat_eq_same q)
 

@@ -1,8 +1,8 @@
 -- An output that is the sum of two inputs.
-use Rattle.std.proofs.Common.{◌≡◌, ◌≢◌, ℕ, zero, suc, ◌+◌, refl, ap, ap₂, sym, ◌∙◌, subst, arith, ◌<◌, ◌≤◌, Bool, true, false, cond, nat_eq, ◌||◌, List, [], ◌∷◌, length, get_or, Option, Some, None, ◌⊎◌, inl, inr, Ordering, Less, Equal, Greater}
+use Rattle.std.proofs.Common.{◌≡◌, ◌≢◌, ℕ, zero, suc, ◌+◌, refl, ap, ap₂, sym, ◌∙◌, subst, arith, ◌<◌, ◌≤◌, Bool, true, false, cond, ◌||◌, List, [], ◌∷◌, length, get_or, Some, None, inr, Ordering, Less, Equal, Greater}
 use Rattle.std.specs.Prelude.{slice_get}
 use Rattle.ps_mono.specs.Sets.{holds, stands, mono_cmp}
-use Rattle.ps_mono.specs.Lists.{nat_eq_same, nat_eq_other}
+use Rattle.ps_mono.specs.Lists.{nat_eq_same}
 use Rattle.ps_mono.specs.Truth.{differ, with_value}
 use Rattle.ps_ring.specs.Readings.{Assignment, second_name}
 use Rattle.ps_bool.specs.Polys.{bool_value, occurs, IsPoly}
@@ -63,7 +63,7 @@ merge_raw v t xs ys = omega (arith, raw_weight v t (merge xs ys), raw_weight v t
 merge_length : (xs ys : List (List ℕ)) → length (merge xs ys) ≤ length xs + length ys
 merge_length xs ys = omega (arith, length_weight (merge xs ys), length_weight xs, length_weight ys, merge_weight (λ m. 1) xs ys)
 
-free_merge : (v : ℕ) (xs ys : List (List ℕ)) → occurs v xs ≡ false → occurs v ys ≡ false → occurs v (merge xs ys) ≡ false
+pub free_merge : (v : ℕ) (xs ys : List (List ℕ)) → occurs v xs ≡ false → occurs v ys ≡ false → occurs v (merge xs ys) ≡ false
 free_merge v xs ys h k = never (occurs v (merge xs ys)) (occurs v xs || occurs v ys) (occurs-merge v xs ys) (no_or _ _ h k)
 
 -- ---- one of the two replaced, and then the other
@@ -122,7 +122,7 @@ half_chain (f ∷ fs) v w (suc d) x y h e z g p o q n l k =
     )
 
 -- the c-th and the d-th of the polynomials in place of two variables
-pair_chain : (fs : List (List (List ℕ))) (v w u c d : ℕ) (x y : List (List ℕ)) → c < d → d < length fs → w ≡ v + c → u ≡ v + d → u < 512 → x ≡ get_or fs c x → y ≡ get_or fs d y → AllPolys fs → ((i : ℕ) → v ≤ i → outs_occur i fs ≡ false)
+pub pair_chain : (fs : List (List (List ℕ))) (v w u c d : ℕ) (x y : List (List ℕ)) → c < d → d < length fs → w ≡ v + c → u ≡ v + d → u < 512 → x ≡ get_or fs c x → y ≡ get_or fs d y → AllPolys fs → ((i : ℕ) → v ≤ i → outs_occur i fs ≡ false)
     → length x < 32768 → length y < 32768 → Chain (List (List ℕ)) raw_bool BoolAfter v fs (merge ((w ∷ []) ∷ []) ((u ∷ []) ∷ [])) None
 unfolding outs_occur
 pair_chain [] v w u c d x y b h e e' z g g' p o l k = absurd (omega arith)

@@ -1,39 +1,38 @@
 -- Sums that change one output, behind others.
-use Rattle.std.proofs.Common.{◌≡◌, ◌≢◌, ℕ, zero, suc, ◌+◌, ◌-◌, ◌*◌, ◌%◌, refl, ap, ap₂, sym, ◌∙◌, subst, arith, ◌<◌, ◌≤◌, Bool, true, false, cond, nat_eq, ◌&&◌, ◌||◌, not, List, [], ◌∷◌, length, get_or, set, Option, Some, None, ◌⊎◌, inl, inr}
-use Rattle.std.specs.Prelude.{slice_get, MatchOption}
+use Rattle.std.proofs.Common.{◌≡◌, ◌≢◌, ℕ, zero, suc, ◌+◌, ◌-◌, ◌*◌, refl, ap, ap₂, sym, ◌∙◌, subst, arith, ◌<◌, ◌≤◌, Bool, true, false, nat_eq, ◌&&◌, ◌||◌, not, List, [], ◌∷◌, length, get_or, set, Option, Some, None, ◌⊎◌, inl, inr}
+use Rattle.std.specs.Prelude.{slice_get}
 use Rattle.std.proofs.lemmas.Bool.{cases_eq, cases_lt}
 use Rattle.std.proofs.lemmas.List.{get_or_default, get_or-set_same, get_or-set_other, length-set}
 use Rattle.ps_mono.specs.Sets.{holds, stands, IsVarSet}
 use Rattle.ps_mono.specs.Lists.{members_empty, nat_eq_same}
-use Rattle.ps_mono.specs.Truth.{differ, with_value}
+use Rattle.ps_mono.specs.Truth.{differ}
 use Rattle.ps_ring.specs.Readings.{Assignment, second_name}
 use Rattle.ps_bool.specs.Polys.{bool_value, occurs, IsPoly}
 use Rattle.ps_bool.specs.Merging.{merge}
 use Rattle.ps_bool.proofs.Merges.{merge_value, merge_poly}
 use Rattle.ps_bool.proofs.Laws.{bool_value-var}
 use Rattle.ps_phase.specs.declared.terms.Term.{Term}
-use Rattle.ps_phase.specs.Phases.{phase_value, phase_occurs, IsPhasePoly}
-use Rattle.ps_phase.proofs.Adding.{neither, no_or}
-use Rattle.ps_sum.specs.Counts.{raw_phase, raw_bool}
+use Rattle.ps_phase.specs.Phases.{phase_value, phase_occurs}
+use Rattle.ps_phase.proofs.Adding.{no_or}
+use Rattle.ps_sum.specs.Counts.{raw_phase}
 use Rattle.ps_sum.specs.Forms.{AllPolys}
 use Rattle.ps_sum.specs.Outs.{outs_occur}
 use Rattle.ps_sum.specs.declared.sums.PathSum.{PathSum}
 use Rattle.ps_join.specs.declared.changes.Change.{Change}
-use Rattle.ps_join.specs.declared.changes.Change.TheVariants.{Stay, Path, Flip, Sum, More}
-use Rattle.ps_join.specs.Joining.{Chain, PhaseAfter, BoolAfter, PhaseNamed, BoolNamed, PhaseChain, OutputChain, OutputChains, JoinFits}
-use Rattle.ps_join.specs.Naming.{Agrees}
-use Rattle.ps_join.specs.Parts.{PhasePart, BoolPart, OutputPart, OutputParts, Placed, chosen, IsPair}
+use Rattle.ps_join.specs.declared.changes.Change.TheVariants.{Stay, Path, Flip, More}
+use Rattle.ps_join.specs.Joining.{PhaseAfter, PhaseNamed, BoolNamed, PhaseChain, OutputChain, OutputChains, JoinFits}
+use Rattle.ps_join.specs.Parts.{PhasePart, BoolPart, OutputPart, OutputParts, Placed, chosen}
 use Rattle.ps_join.specs.Changing.{OthersStay, OneIs, IsChange, IsKind, OnlyInput, AllShort, Becomes, put_output}
-use Rattle.ps_join.proofs.Outputs.{get_value, get_free, get_poly, var_poly, var_free}
+use Rattle.ps_join.proofs.Outputs.{get_value, get_free, var_poly, var_free}
 use Rattle.ps_join.proofs.NamedParts.{name_front, name_back}
-use Rattle.ps_join.proofs.Chains.{PhaseLoop, phase_start, phase_step, phase_part, phase_fits, idle_phase, idle_phase_count, idle_variables, idle_chain, kept_fits, never, output_below}
+use Rattle.ps_join.proofs.Chains.{PhaseLoop, phase_start, phase_step, idle_phase, idle_phase_count, idle_variables, idle_chain, kept_fits, never}
 use Rattle.ps_join.proofs.Merging.{Outputs, outputs_made}
-use Rattle.ps_join.proofs.Pairs.{half_chain, pair_fits, pair_part, one_variable}
+use Rattle.ps_join.proofs.Pairs.{half_chain, one_variable}
 
-here : (fs : List (List (List ℕ))) (i : ℕ) → i < length fs → get_or fs i [] ≡ get_or fs i (get_or fs i [])
+pub here : (fs : List (List (List ℕ))) (i : ℕ) → i < length fs → get_or fs i [] ≡ get_or fs i (get_or fs i [])
 here fs i h = get_or_default fs i [] (get_or fs i []) h
 
-there : (fs : List (List (List ℕ))) (i : ℕ) (f : List (List ℕ)) → i < length fs → f ≡ get_or fs i f → f ≡ get_or fs i []
+pub there : (fs : List (List (List ℕ))) (i : ℕ) (f : List (List ℕ)) → i < length fs → f ≡ get_or fs i f → f ≡ get_or fs i []
 there fs i f h e = e ∙ get_or_default fs i f [] h
 
 -- ---- the phase, where at most one input stands in it
@@ -77,7 +76,7 @@ no_phase n m1 m2 fs p r w b e d =
     subst (λ (x : List Term). PhaseLoop n m1 m2 fs x n r) (sym (no_terms p e)) (subst (λ (x : List Term). PhaseLoop n m1 m2 fs [] n x) (sym d) (empty_loop n m1 m2 fs w b))
 
 -- ---- outputs
-stay_fits : (n m1 m2 i : ℕ) (fs : List (List (List ℕ))) (g : List (List ℕ)) → i < n → length fs ≡ n → n + n + m1 + m2 ≤ 512 → AllPolys fs → ((v : ℕ) → n + m1 ≤ v → outs_occur v fs ≡ false) → AllShort fs → g ≡ (i ∷ []) ∷ [] → OutputChain n m1 m2 fs g None
+pub stay_fits : (n m1 m2 i : ℕ) (fs : List (List (List ℕ))) (g : List (List ℕ)) → i < n → length fs ≡ n → n + n + m1 + m2 ≤ 512 → AllPolys fs → ((v : ℕ) → n + m1 ≤ v → outs_occur v fs ≡ false) → AllShort fs → g ≡ (i ∷ []) ∷ [] → OutputChain n m1 m2 fs g None
 stay_fits n m1 m2 i fs g h w r p b s e = kept_fits n m1 m2 i fs (get_or fs i []) g h w r (here fs i (omega (arith, w, h))) p b e (omega (arith, s i (omega (arith, w, h))))
 
 path_named : (n m1 m2 y : ℕ) → n ≤ y → y + m1 < 512 → BoolNamed n m1 m2 ((y ∷ []) ∷ []) (((y + m1) ∷ []) ∷ [])
@@ -168,12 +167,12 @@ pub path_below : (n m2 q y : ℕ) (gs : List (List (List ℕ))) → q < length g
 path_below n m2 q y gs h e f = y_below (n + m2) y (λ v l. sym (ap (occurs v) e) ∙ get_free gs q [] v h (f v l))
 
 -- ---- all outputs fit
-each_fits : (n m1 m2 : ℕ) (fs gs : List (List (List ℕ))) → ((i : ℕ) → i < length gs → OutputChain n m1 m2 fs (get_or gs i []) None) → OutputChains n m1 m2 fs gs None
+pub each_fits : (n m1 m2 : ℕ) (fs gs : List (List (List ℕ))) → ((i : ℕ) → i < length gs → OutputChain n m1 m2 fs (get_or gs i []) None) → OutputChains n m1 m2 fs gs None
 each_fits n m1 m2 fs [] f = refl
 each_fits n m1 m2 fs (g ∷ gs) f = inr (f 0 (omega arith), each_fits n m1 m2 fs gs (λ i h. f (suc i) (omega (arith, h))))
 
 -- one output, and those that stay
-one_fits : (n m1 m2 q : ℕ) (fs gs : List (List (List ℕ))) (g : List (List ℕ)) → length gs ≡ n → length fs ≡ n → n + n + m1 + m2 ≤ 512 → AllPolys fs → ((v : ℕ) → n + m1 ≤ v → outs_occur v fs ≡ false) → AllShort fs → OneIs q gs g → OutputChain n m1 m2 fs g None → OutputChains n m1 m2 fs gs None
+pub one_fits : (n m1 m2 q : ℕ) (fs gs : List (List (List ℕ))) (g : List (List ℕ)) → length gs ≡ n → length fs ≡ n → n + n + m1 + m2 ≤ 512 → AllPolys fs → ((v : ℕ) → n + m1 ≤ v → outs_occur v fs ≡ false) → AllShort fs → OneIs q gs g → OutputChain n m1 m2 fs g None → OutputChains n m1 m2 fs gs None
 one_fits n m1 m2 q fs gs g x w r p b s o c = each_fits n m1 m2 fs gs (λ i h. by i h (cases_eq i q))
   where
     by : (i : ℕ) → i < length gs → ((i ≡ q) ⊎ (i ≡ q → ⊥)) → OutputChain n m1 m2 fs (get_or gs i []) None
@@ -187,12 +186,6 @@ changes_fit n m1 m2 fs gs (Path q y) k d x w r p b l s =
     let o = k.path q y refl in
     one_fits n m1 m2 q fs gs ((y ∷ []) ∷ []) x w r p b s o.0 (path_fits n m1 m2 y fs o.1 (path_below n m2 q y gs o.0.0 o.0.1.0 l) r)
 changes_fit n m1 m2 fs gs (Flip q) k d x w r p b l s = let o = k.flip q refl in one_fits n m1 m2 q fs gs ([] ∷ (q ∷ []) ∷ []) x w r p b s o (flip_fits n m1 m2 q fs (omega (arith, o.0, x)) w r p b s)
-changes_fit n m1 m2 fs gs (Sum q i j) k d x w r p b l s =
-    let o = k.sum q i j refl in
-    let first : i < length fs = omega (arith, o.1.0, o.1.1, w) in
-    let second : j < length fs = omega (arith, o.1.1, w) in
-    one_fits n m1 m2 q fs gs ((i ∷ []) ∷ (j ∷ []) ∷ []) x w r p b s o.0
-    (pair_fits n m1 m2 i j fs (get_or fs i []) (get_or fs j []) ((i ∷ []) ∷ (j ∷ []) ∷ []) (refl, (o.1.0, o.1.1)) w r (here fs i first) (here fs j second) p b (s i first) (s j second))
 changes_fit n m1 m2 fs gs More k d x w r p b l s = absurd (d refl)
 
 -- ---- the changed output in its place
@@ -303,7 +296,6 @@ path_kind n q y g e h = record {
   stay = λ t. other t;
   path = λ r z t. let k = same r z t in (k.0, (e ∙ ap (λ x. (x ∷ []) ∷ []) (sym k.1), subst (λ x. n ≤ x) (sym k.1) h));
   flip = λ r t. absurd (another r t);
-  sum = λ r i j t. absurd (third r i j t);
 }
   where
     other : Path q y ≡ Stay → ⊥
@@ -315,15 +307,11 @@ path_kind n q y g e h = record {
     another : (r : ℕ) → Path q y ≡ Flip r → ⊥
     another r t = cc
 
-    third : (r i j : ℕ) → Path q y ≡ Sum r i j → ⊥
-    third r i j t = cc
-
 pub flip_kind : (n q : ℕ) (g : List (List ℕ)) → g ≡ [] ∷ (q ∷ []) ∷ [] → IsKind n q g (Flip q)
 flip_kind n q g e = record {
   stay = λ t. other t;
   path = λ r z t. absurd (another r z t);
   flip = λ r t. let k = same r t in (k, e ∙ ap (λ x. [] ∷ (x ∷ []) ∷ []) (sym k));
-  sum = λ r i j t. absurd (third r i j t);
 }
   where
     other : Flip q ≡ Stay → ⊥
@@ -335,15 +323,11 @@ flip_kind n q g e = record {
     another : (r z : ℕ) → Flip q ≡ Path r z → ⊥
     another r z t = cc
 
-    third : (r i j : ℕ) → Flip q ≡ Sum r i j → ⊥
-    third r i j t = cc
-
 pub kind_change : (n q : ℕ) (gs : List (List (List ℕ))) (g : List (List ℕ)) (c : Change) → q < length gs → g ≡ get_or gs q g → OthersStay q gs → IsKind n q g c → IsChange n gs c
 kind_change n q gs g c h e o k = record {
   stay = λ t. absurd (k.stay t);
   path = λ r y t. let p = k.path r y t in (one r ((y ∷ []) ∷ []) p.0 p.1.0, p.1.1);
   flip = λ r t. let p = k.flip r t in one r ([] ∷ (r ∷ []) ∷ []) p.0 p.1;
-  sum = λ r i j t. let p = k.sum r i j t in (one r ((i ∷ []) ∷ (j ∷ []) ∷ []) p.0 p.1.0, p.1.1);
 }
   where
     one : (r : ℕ) (f : List (List ℕ)) → r ≡ q → g ≡ f → OneIs r gs f

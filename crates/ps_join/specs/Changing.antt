@@ -6,8 +6,8 @@ use Rattle.ps_mono.specs.Sets.{stands}
 use Rattle.ps_phase.specs.declared.terms.Term.{Term}
 use Rattle.ps_phase.specs.Phases.{phase_occurs}
 use Rattle.ps_join.specs.declared.changes.Change.{Change}
-use Rattle.ps_join.specs.declared.changes.Change.TheVariants.{Stay, Path, Flip, Sum}
-use Rattle.ps_join.specs.Parts.{BoolPart, IsPair}
+use Rattle.ps_join.specs.declared.changes.Change.TheVariants.{Stay, Path, Flip}
+use Rattle.ps_join.specs.Parts.{BoolPart}
 
 -- each output but output q is its input
 abbrev pub OthersStay : ℕ → List (List (List ℕ)) → Type 0
@@ -22,7 +22,6 @@ pub record IsChange (n : ℕ) (gs : List (List (List ℕ))) (c : Change) : Type 
   pub stay : c ≡ Stay → (i : ℕ) → i < length gs → get_or gs i [] ≡ (i ∷ []) ∷ []
   pub path : (q y : ℕ) → c ≡ Path q y → OneIs q gs ((y ∷ []) ∷ []) × (n ≤ y)
   pub flip : (q : ℕ) → c ≡ Flip q → OneIs q gs ([] ∷ (q ∷ []) ∷ [])
-  pub sum : (q i j : ℕ) → c ≡ Sum q i j → OneIs q gs ((i ∷ []) ∷ (j ∷ []) ∷ []) × ((i < j) × (j < n))
 
 pub IsChange-prop : (n : ℕ) (gs : List (List (List ℕ))) (c : Change) → IsProp (IsChange n gs c)
 IsChange-prop n gs c = hlevel (props, le_prop)
@@ -32,7 +31,6 @@ pub record IsKind (n q : ℕ) (g : List (List ℕ)) (c : Change) : Type 0 where
   pub stay : c ≢ Stay
   pub path : (r y : ℕ) → c ≡ Path r y → (r ≡ q) × ((g ≡ (y ∷ []) ∷ []) × (n ≤ y))
   pub flip : (r : ℕ) → c ≡ Flip r → (r ≡ q) × (g ≡ [] ∷ (r ∷ []) ∷ [])
-  pub sum : (r i j : ℕ) → c ≡ Sum r i j → (r ≡ q) × IsPair n g i j
 
 -- of the inputs below n at most q stands in m
 abbrev pub NoOther : ℕ → ℕ → List ℕ → Type 0

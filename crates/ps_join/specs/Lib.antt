@@ -6,3 +6,5 @@ pub mod Naming
 pub mod Parts
 pub mod Laws
 pub mod Changing
+pub mod Plainly
+pub mod Totals

@@ -7,8 +7,6 @@ pub enum Change {
     Path { q: u16, y: u16 },
     /// Output `q` is 1 where its input is 0.
     Flip { q: u16 },
-    /// Output `q` is the sum of two inputs, the lesser first.
-    Sum { q: u16, low: u16, high: u16 },
     /// Something else, or more than one.
     More,
 }

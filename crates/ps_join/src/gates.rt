@@ -6,7 +6,7 @@ ghost use Rattle.ps_join.specs.Changing.{OthersStay, IsChange, IsChange-prop, Is
 
 use super::changes::Change;
 use super::naming::phase_support;
-use super::replacing::{is_input, two_inputs};
+use super::replacing::is_input;
 use ps_bool::BoolPoly;
 use ps_mono::Mono;
 use ps_phase::PhasePoly;
@@ -126,13 +126,10 @@ fn path_kind(poly: &BoolPoly, q: u16, n: u16) -> Change
 }
 
 // What becomes of output `q`, which is two monomials.
-fn flip_kind(poly: &BoolPoly, q: u16, n: u16) -> Change
+fn flip_kind(poly: &BoolPoly, q: u16) -> Change
     requires { length poly.now ≡ 2 }
-    ensures { IsKind n q poly.now result }
+    ensures { (n : ℕ) → IsKind n q poly.now result }
 {
-    if let Some((low, high)) = two_inputs(poly, n) {
-        return Change::Sum { q, low, high };
-    }
     if poly.mono(0).degree() != 0 {
         return Change::More;
     }
@@ -153,7 +150,7 @@ fn kind_of(poly: &BoolPoly, q: u16, n: u16) -> Change
 {
     match poly.count() {
         1 => path_kind(poly, q, n),
-        2 => flip_kind(poly, q, n),
+        2 => flip_kind(poly, q),
         _ => Change::More,
     }
 }

@@ -14,21 +14,13 @@ ghost use Rattle.ps_join.specs.Changing.{IsChange, OnlyInput, AllShort, Becomes,
 use super::changes::Change;
 use super::gates::Gate;
 use super::joins::join_onto;
+use super::limits::{MOST_TERMS, MOST_VARIABLES, SHORT};
 use super::naming::{Names, named_phase};
 use super::onto_fault::OntoFault;
 use ps_bool::BoolPoly;
 use ps_phase::PhasePoly;
 use ps_sum::{Outputs, PathSum, raw_phase, subst_phase};
 use std::alloc::{AllocError, Global};
-
-// The most variables that a join may name, the inputs of both sums counted.
-const MOST_VARIABLES: u32 = 512;
-
-// The most terms that one replacement may make, before any are added.
-const MOST_TERMS: u64 = 65_536;
-
-// Two polynomials with fewer monomials than this make a sum within the limit.
-const SHORT: u64 = 32_768;
 
 // What a gate's sum comes to behind another: its phase, and the output that it changes, with its place.
 #[derive(Drop)]
@@ -38,7 +30,7 @@ struct Behind {
 }
 
 // Whether each output is short.
-fn all_short(outs: &[BoolPoly]) -> bool
+pub(crate) fn all_short(outs: &[BoolPoly]) -> bool
     ensures { IsTrue result → AllShort outs.now }
 {
     for output in outs {
@@ -128,10 +120,6 @@ fn new_output(
         Change::Flip { q } => {
             let one = BoolPoly::one(alloc)?;
             Ok(Some((q, outs[q as usize].xor(&one)?)))
-        }
-        Change::Sum { q, low, high } => {
-            let sum = outs[low as usize].xor(&outs[high as usize])?;
-            Ok(Some((q, sum)))
         }
         Change::More => unreachable!(),
     }

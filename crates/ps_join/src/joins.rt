@@ -7,6 +7,7 @@ ghost use Rattle.ps_join.specs.Faults.{IsJoinFault};
 ghost use Rattle.ps_join.specs.OntoFaults.{IsOntoFault};
 ghost use Rattle.ps_join.specs.Parts.{IsParts, OutputParts, Placed};
 
+use super::limits::MOST_VARIABLES;
 use super::naming::Names;
 use super::onto_fault::OntoFault;
 use super::replacing::{replaced_outputs, replaced_phase};
@@ -14,9 +15,6 @@ use ps_bool::BoolPoly;
 use ps_phase::PhasePoly;
 use ps_sum::{JoinFault, Outputs, Passed, PathSum, What};
 use std::alloc::{AllocError, Global};
-
-/// The most variables that a join may name, the inputs of both sums counted.
-const MOST_VARIABLES: u32 = 512;
 
 // What the second sum comes to behind the first: its phase, and each of its outputs that is not its
 // input.

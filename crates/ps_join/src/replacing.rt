@@ -8,18 +8,13 @@ ghost use Rattle.ps_join.specs.Joining.{PhaseAfter, BoolAfter, PhaseChain, Outpu
 ghost use Rattle.ps_join.specs.Faults.{IsOver, IsChainFault};
 ghost use Rattle.ps_join.specs.Parts.{PhasePart, BoolPart, OutputPart, OutputParts, IsPair};
 
+use super::limits::{MOST_TERMS, SHORT};
 use super::naming::{Names, bool_support, named_bool, named_phase, phase_support};
 use ps_bool::BoolPoly;
 use ps_mono::Mono;
 use ps_phase::PhasePoly;
 use ps_sum::{JoinFault, Passed, What, raw_bool, raw_phase, subst_phase};
 use std::alloc::{AllocError, Global};
-
-/// The most terms that one replacement may make, before any are added.
-const MOST_TERMS: u64 = 65_536;
-
-// Two polynomials with fewer monomials than this make a sum within the limit.
-const SHORT: u64 = 32_768;
 
 // Counts are told as this number where they are above it.
 const CAP: u64 = 1_000_000_000_000;
@@ -171,7 +166,7 @@ pub(crate) fn is_input(poly: &BoolPoly, i: u16) -> bool
 }
 
 // The two inputs below `n` whose sum the polynomial is, the lesser first.
-pub(crate) fn two_inputs(poly: &BoolPoly, n: u16) -> Option<(u16, u16)>
+fn two_inputs(poly: &BoolPoly, n: u16) -> Option<(u16, u16)>
     ensures { IfSome result (λ p. IsPair n poly.now p.0 p.1) }
 {
     if poly.count() != 2 {

@@ -1,6 +1,7 @@
 pub mod Floors
 pub mod Parting
 pub mod Taking
+pub mod PlainTaking
 pub mod Recording
 pub mod Pairs
 pub mod Finding

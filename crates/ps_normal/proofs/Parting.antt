@@ -16,7 +16,7 @@ use Rattle.ps_join.specs.OntoFaults.{IsOntoFault}
 use Rattle.ps_join.specs.declared.onto_fault.OntoFault.{OntoFault}
 use Rattle.ps_join.specs.declared.onto_fault.OntoFault.TheVariants as fault
 use Rattle.ps_rules.specs.Rules.{IsIrreducible}
-use Rattle.ps_reach.specs.Reductions.{Reduces, rest, normal, ReducesTo}
+use Rattle.ps_reach.specs.Reductions.{Reduces}
 use Rattle.ps_reach.specs.Overruns.{Overrun}
 use Rattle.ps_reach.specs.Fillings.{kept, passed, Joins, passes, step_passes, reduces, Leaves, leaf_passes, leaf_reduces, overrun, rewrites, with_leaf, with_join}
 use Rattle.ps_reach.proofs.Reducing.{reduces_n, reduces_width, reduces_scaled}
@@ -84,9 +84,6 @@ usable_reduced n count S T ss r u = record { n_is = reduces_n r ∙ u.n_is; wide
 
 pub usable_ended : (n count : ℕ) (S T : PathSum) (ss : List Step) (e : Ended) → e ≡ ended.Normal T → Usable n count S → IsEnded S ss e → Usable n count T × IsIrreducible T
 usable_ended n count S T ss e is u r = let w = subst (IsEnded S ss) is r in (usable_reduced n count S T ss w.taken u, w.ended)
-
-pub still_ended : (S : PathSum) (ss : List Step) → ss ≡ [] → IsIrreducible S → ReducesTo S ss (normal S)
-still_ended S ss e i = subst (λ q. ReducesTo S q (normal S)) (sym e) (record { taken = rest; ended = i })
 
 pub usable_leaf : (n : ℕ) (g : Prim) (S : PathSum) → IsLeafOf n g S → Denotes n (path_values S) (g ∷ []) → Usable n 1 S
 usable_leaf n g S l d = record { n_is = l.n_is; wide = denotes_open S d; scale = scaled_more (turns (g ∷ [])) 1 S (turns_few (g ∷ [])) (leaf_scaled n g S l) }

@@ -38,7 +38,6 @@ use Rattle.ps_rules.proofs.Splits.{holds_without}
 use Rattle.ps_rules.proofs.Seeing.{each_none}
 use Rattle.ps_rules.proofs.Firsts.{both_first, alone_stands}
 use Rattle.ps_join.specs.Joining.{IsLeafOf, IsJoinOf}
-use Rattle.ps_reach.specs.Reductions.{Reduces, rest, step, normal, ReducesTo}
 use Rattle.ps_normal.specs.Keeping.{IsPlainPrim}
 
 off : {b : Bool} → b ≡ true → b ≡ false → ⊥
@@ -300,9 +299,8 @@ no_variable S (Elim y0) e a = let h = a.inner.inside in omega (arith, h, e)
 no_variable S (Hh y0 y1) e a = let h = a.inner.inside in omega (arith, h, e)
 no_variable S (Omega y0) e a = let h = a.inner.inside in omega (arith, h, e)
 
-plain_reduced : (n : ℕ) (g : Prim) (L K : PathSum) (ss : List Step) → IsPlainPrim g → IsLeafOf n g L → Reduces L ss K → IsLeafOf n g K
-plain_reduced n g L K ss p l rest = l
-plain_reduced n g L K ss p l (step {s = s} f t a r) = absurd (no_variable L s (plain_m n g L p l) f.applies)
+pub plain_irreducible : (n : ℕ) (g : Prim) (L : PathSum) → IsPlainPrim g → IsLeafOf n g L → IsIrreducible L
+plain_irreducible n g L p l s a = no_variable L s (plain_m n g L p l) a
 
 plain_quiet : (n : ℕ) (g : Prim) (S L T : PathSum) → IsPlainPrim g → IsWithin n g → S.n ≡ n → length S.outs ≡ n → IsLeafOf n g L → IsJoinOf S L T → Quiet S T
 plain_quiet n (U theta phi lambda q) S L T p w en wide l j =
@@ -311,5 +309,5 @@ plain_quiet n (U theta phi lambda q) S L T p w en wide l j =
 plain_quiet n (Cx c t) S L T p w en wide l j =
     behind_quiet S T _ (exchanged c t) _ (λ z h. exchanged_twice c t z (omega (arith, w.1, h, wide)) w.2) (plain_behind n (exchanged c t) (λ x. 0) S L T en wide l.values_are j)
 
-pub plain_still : (n : ℕ) (g : Prim) (S L K T : PathSum) (ss : List Step) → IsPlainPrim g → IsWithin n g → S.n ≡ n → length S.outs ≡ n → IsLeafOf n g L → ReducesTo L ss (normal K) → IsIrreducible S → IsJoinOf S K T → IsIrreducible T
-plain_still n g S L K T ss p w en wide l r i j = quiet_irreducible S T (plain_quiet n g S K T p w en wide (plain_reduced n g L K ss p l r.taken) j) i
+pub plain_still : (n : ℕ) (g : Prim) (S L T : PathSum) → IsPlainPrim g → IsWithin n g → S.n ≡ n → length S.outs ≡ n → IsLeafOf n g L → IsIrreducible S → IsJoinOf S L T → IsIrreducible T
+plain_still n g S L T p w en wide l i j = quiet_irreducible S T (plain_quiet n g S L T p w en wide l j) i

@@ -7,8 +7,6 @@ use Rattle.ps_prim.specs.declared.items.Item.{Item}
 use Rattle.ps_prim.specs.Maps.{IsWithin, AllWithin}
 use Rattle.ps_sum.specs.declared.sums.PathSum.{PathSum}
 use Rattle.ps_rules.specs.declared.steps.Move.{Move}
-use Rattle.ps_rules.specs.Rules.{IsIrreducible}
-use Rattle.ps_join.specs.Joining.{IsJoinOf}
 use Rattle.ps_reach.specs.declared.evidence.Evidence.{Evidence}
 use Rattle.ps_reach.specs.Runs.{prims_of, run_of}
 use Rattle.ps_reach.specs.Parts.{overrun_of}
@@ -22,9 +20,7 @@ use Rattle.ps_normal.specs.declared.parts.LeafPart.TheVariants as leaf
 use Rattle.ps_normal.specs.declared.parts.Taken.{Taken}
 use Rattle.ps_normal.specs.declared.parts.Taken.TheVariants as taken
 use Rattle.ps_normal.specs.Pieces.{PartIs, UsablePart, IsProgress, IsTaken}
-use Rattle.ps_normal.specs.declared.kept.Kept.{Kept}
-use Rattle.ps_normal.specs.Keeping.{IsPlainPrim, IsKept, LeafIs}
-use Rattle.ps_normal.proofs.Plains.{plain_still}
+use Rattle.ps_normal.specs.Keeping.{LeafIs}
 use Rattle.ps_normal.specs.Takings.{Takes, UsableHeld, UsableTaken}
 
 -- ---- one prim
@@ -56,10 +52,6 @@ first_part n i A more ms ms' g part.Stopped held h l w = tt
 
 pub next_over : (n i : ℕ) (A more : List Prim) (ms ms' : List Move) (g : Prim) (S : PathSum) (e : Evidence) (p : LeafPart) → p ≡ leaf.Over e → LeafIs (Leaves n i g ms) ms' p → IsProgress n A (g ∷ more) (Some S) i ms → Fills n A (passed (overrun_of e) ms')
 next_over n i A more ms ms' g S e p is l w = w _ (leaf_over (subst (LeafIs (Leaves n i g ms) ms') is l))
-
--- ---- a prim whose sum has no path variable
-pub next_still : (n i : ℕ) (g : Prim) (S T : PathSum) (k : Kept) → IsPlainPrim g → IsWithin n g → UsableHeld n i (Some S) → IsKept n g k → IsJoinOf S k.gate.sum.value T → IsIrreducible T
-next_still n i g S T k plain w u h j = plain_still n g S h.made k.gate.sum.value T k.steps.items plain w u.0.n_is u.0.wide h.is_leaf h.reduces u.1 j
 
 pub usable_more : (n a b : ℕ) (p : Part) → a ≤ b → UsablePart n a p → UsablePart n b p
 usable_more n a b (part.Sum T) h u = (record { n_is = u.0.n_is; wide = u.0.wide; scale = scaled_more a b T h u.0.scale }, u.1)

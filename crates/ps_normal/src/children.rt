@@ -134,7 +134,7 @@ fn joined_record(
 {
     match part {
         Part::Sum(sum) => {
-            let body = Body::Sum(Arc::new(alloc, sum)?);
+            let body = Body::Sum(Arc::new(alloc, sum.settled()?)?);
             Ok(Filled::Done(record(n, items, moves, body)))
         }
         Part::Over(evidence) => Ok(Filled::Done(record(n, items, moves, Body::Passed(evidence)))),

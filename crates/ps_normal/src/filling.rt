@@ -70,7 +70,7 @@ fn taken_record(
     match taken {
         Taken::Going(None) => Ok(Filled::Done(empty_record(alloc, n, items)?)),
         Taken::Going(Some(sum)) => {
-            let body = Body::Sum(Arc::new(alloc, sum)?);
+            let body = Body::Sum(Arc::new(alloc, sum.settled()?)?);
             Ok(Filled::Done(record(n, items, moves, body)))
         }
         Taken::Over(evidence) => Ok(Filled::Done(record(n, items, moves, Body::Passed(evidence)))),

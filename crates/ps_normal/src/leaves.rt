@@ -18,7 +18,7 @@ use std::sync::Arc;
 // How many qubits have slots of their own.
 const QUBITS: usize = 64;
 
-// How many slots a qubit has for its turns, and as many for the gates that it controls.
+// How many slots a qubit has.
 const SLOTS: usize = 64;
 
 // Whether the two are one prim.
@@ -59,7 +59,7 @@ fn mixed(number: u32) -> u32 {
 // The slot of a prim: those of one qubit stand together, so that a table is no longer than the qubits
 // that were met need.
 fn slot_of(prim: &Prim) -> usize
-    ensures { result < 8192 }
+    ensures { result < 4096 }
 {
     match *prim {
         Prim::U {
@@ -69,9 +69,9 @@ fn slot_of(prim: &Prim) -> usize
             q,
         } => {
             let turn = mixed(mixed(mixed(theta.units()) ^ phi.units()) ^ lambda.units());
-            2 * SLOTS * (q as usize % QUBITS) + (turn >> 13) as usize % SLOTS
+            SLOTS * (q as usize % QUBITS) + (turn >> 13) as usize % SLOTS
         }
-        Prim::Cx { c, t } => 2 * SLOTS * (c as usize % QUBITS) + SLOTS + t as usize % SLOTS,
+        Prim::Cx { c, t } => SLOTS * (c as usize % QUBITS) + t as usize % SLOTS,
     }
 }
 
@@ -128,7 +128,7 @@ pub fn new_leaf<S: Stop>(
     match leaf_part(alloc, n, prim, place, moves, steps, stop)? {
         Part::Sum(sum) => Ok(LeafPart::Made(Kept {
             prim: *prim,
-            gate: Gate::of(Arc::new(alloc, sum)?),
+            gate: Gate::of(Arc::new(alloc, sum.settled()?)?),
             steps: Vec::from_slice(alloc, steps)?,
         })),
         Part::Over(evidence) => Ok(LeafPart::Over(evidence)),

@@ -1,4 +1,5 @@
 use super::kept::Kept;
+use ps_join::Running;
 use ps_reach::Evidence;
 use ps_sum::{Passed, PathSum};
 
@@ -17,7 +18,7 @@ pub enum Ended {
 #[derive(Drop)]
 pub enum Part {
     /// A normal sum.
-    Sum(PathSum),
+    Sum(Running),
     /// A limit that is passed.
     Over(Evidence),
     /// It was asked to stop.
@@ -47,7 +48,7 @@ pub struct Places {
 #[derive(Drop)]
 pub enum Taken {
     /// A normal sum of all so far, or none where there is no prim yet.
-    Going(Option<PathSum>),
+    Going(Option<Running>),
     /// A limit that is passed.
     Over(Evidence),
     /// It was asked to stop.

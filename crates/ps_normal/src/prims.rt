@@ -5,7 +5,6 @@ ghost use Rattle.ps_prim.specs.declared.prims.Primitive.{Primitive as Prim};
 ghost use Rattle.ps_prim.specs.Maps.{IsWithin};
 ghost use Rattle.ps_sum.specs.declared.sums.PathSum.{PathSum};
 ghost use Rattle.ps_rules.specs.declared.steps.Move.TheVariants.{Leaf, Join};
-ghost use Rattle.ps_rules.specs.Rules.{IsIrreducible};
 ghost use Rattle.ps_join.specs.Joining.{IsLeafOf, IsJoinOf, JoinFits};
 ghost use Rattle.ps_reach.specs.Fillings.{Leaves, Joins};
 ghost use Rattle.ps_normal.specs.Ends.{IsEnded, HasRisen};
@@ -14,9 +13,9 @@ ghost use Rattle.ps_normal.specs.Keeping.{IsPlainPrim, IsReducedPart, IsReducedL
 
 use super::evidences::{evidence, push_moves, shared_evidence};
 use super::parts::{Ended, Part, Places};
-use super::reduce::{reduce, settle};
+use super::reduce::reduce;
 use ps_io::Stop;
-use ps_join::{Gate, OntoFault, join_gate, leaf};
+use ps_join::{Gate, OntoFault, Running, join_gate, leaf};
 use ps_prim::Prim;
 use ps_rules::{Move, Step};
 use ps_sum::PathSum;
@@ -41,7 +40,7 @@ pub fn ended_part(
     match ended {
         Ended::Normal(sum) => {
             push_moves(moves, first, steps)?;
-            Ok(Part::Sum(sum))
+            Ok(Part::Sum(Running::of(alloc, sum)))
         }
         Ended::Over { passed, sum } => {
             push_moves(moves, first, steps)?;
@@ -90,20 +89,17 @@ pub fn is_plain(prim: &Prim) -> bool
     }
 }
 
-/// The gate's sum behind the first, which is given away, reduced; where it is known that no step
-/// applies to it, none is looked for.
+/// The gate's sum behind the first, which is given away, reduced.
 pub fn join_part<S: Stop>(
     alloc: Global,
     places: Places,
     first: PathSum,
     gate: &Gate,
-    still: bool,
     moves: &mut Vec<Move>,
     steps: &mut Vec<Step>,
     stop: &mut S,
 ) -> Result<Part, AllocError>
     requires ready { Joinable first gate.now.sum.value }
-    requires still { IsTrue still → (T : PathSum) → IsJoinOf first gate.now.sum.value T → IsIrreducible T }
     ensures part { IfOk result (λ p. PartIs (Joins places.from places.middle places.to first gate.now.sum.value moves.old.items) moves.new.items p) }
     ensures usable { IfOk result (λ p. (n a b : ℕ) → Usable n a first → Usable n b gate.now.sum.value → UsablePart n (a + b) p) }
     ensures stopped { IfOk result (λ p. PartRose (S.yeses stop.old) (S.yeses stop.new) p) }
@@ -111,7 +107,7 @@ pub fn join_part<S: Stop>(
 {
     match join_gate(alloc, first, gate) {
         Ok(sum) => {
-            let ended = settle(alloc, sum, still, steps, stop)?;
+            let ended = reduce(alloc, sum, steps, stop)?;
             ended_part(alloc, places, Move::Join, ended, moves, steps)
         }
         Err(OntoFault::Passed { passed, first }) => {

@@ -1,8 +1,7 @@
 //! Reducing a sum.
 
-ghost use Rattle.std.specs.Prelude.{◌≡◌, ◌≤◌, ◌*◌, Ok, IfOk, OnOk, pos, negsuc, ◌≤ℤ◌, ◌-ℤ◌, IsTrue};
+ghost use Rattle.std.specs.Prelude.{◌≡◌, ◌≤◌, ◌*◌, Ok, IfOk, OnOk, pos, negsuc, ◌≤ℤ◌, ◌-ℤ◌};
 ghost use Rattle.ps_io.specs.Counts.{Rose};
-ghost use Rattle.ps_rules.specs.Rules.{IsIrreducible};
 ghost use Rattle.ps_normal.specs.Ends.{IsEnded, HasRisen};
 
 use super::parts::Ended;
@@ -43,28 +42,4 @@ pub fn reduce<S: Stop>(
             },
         }
     }
-}
-
-/// The same, where it may be known that no step applies: then none is looked for.
-pub fn settle<S: Stop>(
-    alloc: Global,
-    sum: PathSum,
-    still: bool,
-    steps: &mut Vec<Step>,
-    stop: &mut S,
-) -> Result<Ended, AllocError>
-    requires floor { negsuc 1999999999 ≤ℤ (sum.k -ℤ pos (2 * sum.m)) }
-    requires still { IsTrue still → IsIrreducible sum }
-    ensures ended { IfOk result (λ e. IsEnded sum steps.new.items e) }
-    ensures stopped { IfOk result (λ e. HasRisen (S.yeses stop.old) (S.yeses stop.new) e) }
-    ensures never_falls { S.yeses stop.old ≤ S.yeses stop.new }
-{
-    if !still {
-        return reduce(alloc, sum, steps, stop);
-    }
-    steps.clear();
-    if stop.asked() {
-        return Ok(Ended::Stopped);
-    }
-    Ok(Ended::Normal(sum))
 }

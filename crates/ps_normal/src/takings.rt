@@ -6,19 +6,19 @@ ghost use Rattle.ps_prim.specs.Maps.{IsWithin, AllWithin};
 ghost use Rattle.ps_reach.specs.Runs.{run_of};
 ghost use Rattle.ps_reach.specs.Fillings.{Joins};
 ghost use Rattle.ps_normal.specs.Pieces.{PartIs, PartRose, UsablePart, IsProgress, IsTaken};
-ghost use Rattle.ps_normal.specs.Keeping.{IsTable, IsKept};
+ghost use Rattle.ps_normal.specs.Keeping.{IsPlainPrim, IsTable, IsKept};
 ghost use Rattle.ps_normal.specs.Takings.{Takes, UsableHeld, UsableTaken, TakenRose};
 
-use super::evidences::push_moves;
+use super::evidences::{evidence, push_moves};
 use super::kept::{Kept, Workspace};
 use super::leaves::{keep, kept_leaf, new_leaf};
 use super::parts::{LeafPart, Part, Places, Taken};
 use super::prims::{is_plain, join_part, leaf_part};
 use ps_io::Stop;
+use ps_join::{OntoFault, Running, join_prim, leaf};
 use ps_prim::Prim;
 use ps_reach::Items;
 use ps_rules::{Move, Step};
-use ps_sum::PathSum;
 use std::alloc::{AllocError, Global};
 
 // A leaf that is kept, behind the sum of the prims before its place.
@@ -26,7 +26,7 @@ fn take_kept<S: Stop>(
     alloc: Global,
     n: u32,
     prim: &Prim,
-    sum: PathSum,
+    sum: Running,
     place: u32,
     kept: &Kept,
     moves: &mut Vec<Move>,
@@ -48,8 +48,58 @@ fn take_kept<S: Stop>(
         middle: place,
         to: place + 1,
     };
-    let still = is_plain(prim);
-    join_part(alloc, places, sum, &kept.gate, still, moves, steps, stop)
+    join_part(
+        alloc,
+        places,
+        sum.settled()?,
+        &kept.gate,
+        moves,
+        steps,
+        stop,
+    )
+}
+
+// The prim at a place, whose sum has no path variable, behind the sum of those before it. No step applies
+// to its sum, and none to what comes of the join.
+fn take_plain<S: Stop>(
+    alloc: Global,
+    n: u32,
+    prim: &Prim,
+    sum: Running,
+    place: u32,
+    moves: &mut Vec<Move>,
+    stop: &mut S,
+) -> Result<Part, AllocError>
+    requires width { (1 ≤ n) × (n ≤ 64) }
+    requires within { IsWithin n prim.now }
+    requires few { place < 268435456 }
+    requires usable { UsableHeld n place (Some sum) }
+    requires plain { IsPlainPrim prim.now }
+    ensures taken { IfOk result (λ p. (A more : List Prim) → IsProgress n A (prim.now ∷ more) (Some sum) place moves.old.items → IsTaken n A more (place + 1) moves.new.items p) }
+    ensures usable { IfOk result (λ p. UsablePart n (place + 1) p) }
+    ensures stopped { IfOk result (λ p. PartRose (S.yeses stop.old) (S.yeses stop.new) p) }
+    ensures never_falls { S.yeses stop.old ≤ S.yeses stop.new }
+{
+    moves.push(Move::Leaf(place))?;
+    match join_prim(alloc, sum, prim) {
+        Ok(joined) => {
+            if stop.asked() {
+                return Ok(Part::Stopped);
+            }
+            moves.push(Move::Join)?;
+            Ok(Part::Sum(joined))
+        }
+        Err(OntoFault::Passed { passed, first }) => {
+            let places = Places {
+                from: 0,
+                middle: place,
+                to: place + 1,
+            };
+            let second = leaf(alloc, prim, n)?;
+            Ok(Part::Over(evidence(alloc, passed, places, first, Some(second))?))
+        }
+        Err(OntoFault::Memory) => Err(AllocError),
+    }
 }
 
 // The prim at a place, which is met first, behind the sum of those before it.
@@ -57,7 +107,7 @@ fn take_new<S: Stop>(
     alloc: Global,
     n: u32,
     prim: &Prim,
-    sum: PathSum,
+    sum: Running,
     place: u32,
     moves: &mut Vec<Move>,
     work: &mut Workspace,
@@ -100,7 +150,7 @@ fn take_next<S: Stop>(
     alloc: Global,
     n: u32,
     prim: &Prim,
-    sum: PathSum,
+    sum: Running,
     place: u32,
     moves: &mut Vec<Move>,
     work: &mut Workspace,
@@ -117,6 +167,9 @@ fn take_next<S: Stop>(
     ensures stopped { IfOk result (λ p. PartRose (S.yeses stop.old) (S.yeses stop.new) p) }
     ensures never_falls { S.yeses stop.old ≤ S.yeses stop.new }
 {
+    if is_plain(prim) {
+        return take_plain(alloc, n, prim, sum, place, moves, stop);
+    }
     match kept_leaf(&work.leaves, prim) {
         Some(kept) => {
             push_moves(moves, Move::Leaf(place), &kept.steps)?;
@@ -141,7 +194,7 @@ fn take_prim<S: Stop>(
     alloc: Global,
     n: u32,
     prim: &Prim,
-    held: Option<PathSum>,
+    held: Option<Running>,
     place: u32,
     moves: &mut Vec<Move>,
     work: &mut Workspace,
@@ -169,7 +222,7 @@ fn take_prims<S: Stop>(
     alloc: Global,
     n: u32,
     prims: &[Prim],
-    held: Option<PathSum>,
+    held: Option<Running>,
     place: u32,
     moves: &mut Vec<Move>,
     work: &mut Workspace,

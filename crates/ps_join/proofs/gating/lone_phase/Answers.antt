@@ -1,5 +1,5 @@
-use Rattle.std.proofs.Common.{◌≤◌, arith}
-use Rattle.ps_join.proofs.Chains.{PhaseLoop, phase_part, phase_fits}
+use Rattle.std.proofs.Common.{arith}
+use Rattle.ps_join.proofs.Chains.{phase_part, phase_fits}
 use Rattle.ps_join.proofs.Touching.{lone_loop}
 use Rattle.ps_join.proofs.gating.lone_phase.Goals as goal
 

@@ -1,6 +1,5 @@
-use Rattle.std.proofs.Common.{◌≡◌, ℕ, ◌∙◌, ap, refl, subst, arith, List, None}
+use Rattle.std.proofs.Common.{◌≡◌, ◌∙◌, ap, refl, subst, arith, None}
 use Rattle.std.specs.Prelude.{IfSome}
-use Rattle.ps_phase.specs.declared.terms.Term.{Term}
 use Rattle.ps_sum.specs.declared.sums.PathSum.{PathSum}
 use Rattle.ps_join.specs.Joining.{PhaseChain}
 use Rattle.ps_join.specs.Parts.{PhasePart}

@@ -1,5 +1,4 @@
-use Rattle.std.proofs.Common.{ℕ, ◌<◌, ◌≤◌, ◌+◌, arith, get_or, [], rules}
-use Rattle.ps_join.proofs.Pairs.{pair_part}
+use Rattle.std.proofs.Common.{◌<◌, ◌+◌, arith, get_or, [], rules}
 use Rattle.ps_join.proofs.Touching.{path_below, path_part, flip_part}
 use Rattle.ps_join.proofs.gating.new_output.Goals as goal
 
@@ -19,12 +18,6 @@ var-requires c =
 pub bounds-outs-q : goal.bounds-outs-q
 bounds-outs-q c = let o = c.requires.changes.flip c.in-Flip.q c.in-Flip.is in omega (arith, o.0, c.requires.second_wide, c.requires.wide)
 
-pub bounds-outs-low : goal.bounds-outs-low
-bounds-outs-low c = let o = c.requires.changes.sum c.in-Sum.q c.in-Sum.low c.in-Sum.high c.in-Sum.is in omega (arith, o.1.0, o.1.1, c.requires.wide)
-
-pub bounds-outs-high : goal.bounds-outs-high
-bounds-outs-high c = let o = c.requires.changes.sum c.in-Sum.q c.in-Sum.low c.in-Sum.high c.in-Sum.is in omega (arith, o.1.1, c.requires.wide)
-
 pub returns-in_ok-var-in-Path : goal.returns-in_ok-var-in-Path
 returns-in_ok-var-in-Path c =
     let o = c.requires.changes.path c.in-Path.q c.in-Path.y c.in-Path.is in
@@ -39,16 +32,5 @@ returns-in_ok-xor-in-Flip c =
         o.1.1,
         flip_part c.args.names.now.n c.args.names.now.m1 c.args.names.now.m2 c.in-Flip.q c.args.outs.now c.index-outs-q.result c.in_ok-one-in-Flip.one (get_or c.args.polys.now c.in-Flip.q []) c.in_ok-xor-in-Flip.field-0
             (omega (arith, o.0, c.requires.second_wide)) c.requires.wide c.requires.outs_below c.index-outs-q.is c.in_ok-one-in-Flip.ensures o.1.0 c.in_ok-xor-in-Flip.ensures.form c.in_ok-xor-in-Flip.ensures.value c.in_ok-xor-in-Flip.ensures.variables,
-      ),
-    )
-
-pub returns-in_ok-sum-in-Sum : goal.returns-in_ok-sum-in-Sum
-returns-in_ok-sum-in-Sum c =
-    let o = c.requires.changes.sum c.in-Sum.q c.in-Sum.low c.in-Sum.high c.in-Sum.is in (
-      o.0.0,
-      (
-        o.0.1.1,
-        pair_part c.args.names.now.n c.args.names.now.m1 c.args.names.now.m2 c.in-Sum.low c.in-Sum.high c.args.outs.now c.index-outs-low.result c.index-outs-high.result (get_or c.args.polys.now c.in-Sum.q []) c.in_ok-sum-in-Sum.sum
-            (o.0.1.0, (o.1.0, o.1.1)) c.requires.wide c.index-outs-low.is c.index-outs-high.is c.requires.outs_below c.in_ok-sum-in-Sum.ensures.form c.in_ok-sum-in-Sum.ensures.value c.in_ok-sum-in-Sum.ensures.variables,
       ),
     )

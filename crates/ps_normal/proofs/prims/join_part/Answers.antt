@@ -3,13 +3,10 @@ use Rattle.std.proofs.lemmas.Result.{IfOk-weaker}
 use Rattle.ps_normal.proofs.Parting.{shared_onto, usable_join, usable_floor, ended_at}
 use Rattle.ps_normal.proofs.prims.join_part.Goals as goal
 
-pub settle-requires-clause-floor : goal.settle-requires-clause-floor
-settle-requires-clause-floor g c =
+pub reduce-requires : goal.reduce-requires
+reduce-requires g c =
     let r = c.requires.ready in
-    usable_floor r.n (r.before + r.behind) c.in-Ok.sum r.few (usable_join r.n r.before r.behind c.args.first c.args.gate.now.sum.value c.in-Ok.sum c.in-Ok.ensures.sum r.first r.second)
-
-pub settle-requires-clause-still : goal.settle-requires-clause-still
-settle-requires-clause-still g c = λ t. c.requires.still t c.in-Ok.sum c.in-Ok.ensures.sum
+    record { floor = usable_floor r.n (r.before + r.behind) c.in-Ok.sum r.few (usable_join r.n r.before r.behind c.args.first c.args.gate.now.sum.value c.in-Ok.sum c.in-Ok.ensures.sum r.first r.second) }
 
 pub returns-in_ok-ended-in-Ok-clause-part : goal.returns-in_ok-ended-in-Ok-clause-part
 returns-in_ok-ended-in-Ok-clause-part g c = IfOk-weaker c.ended_part.result _ _
