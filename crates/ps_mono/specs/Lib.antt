@@ -4,3 +4,4 @@ pub mod Words
 pub mod Truth
 pub mod Orders
 pub mod Names
+pub mod Keys

@@ -1,4 +1,4 @@
-ghost use Rattle.std.specs.Prelude.{◌≡◌, ℕ, ◌<◌, [], ◌∷◌, ◌&&◌, ◌||◌, not, nat_eq, length, get_or, Ok, IsOkAnd, IsNone, IfSome, IsTrue, false, ◌↔◌};
+ghost use Rattle.std.specs.Prelude.{◌≡◌, ℕ, ◌<◌, ◌≤◌, List, [], ◌∷◌, ◌&&◌, ◌||◌, not, nat_eq, length, get_or, Ok, IsOkAnd, IsNone, IfSome, IsTrue, false, ◌↔◌};
 ghost use Rattle.std.specs.Cmp.{partial_equiv_from_equiv};
 ghost use Rattle.std.specs.Cmp.Lexicographic.{pointwise, slice_cmp};
 ghost use Rattle.std.specs.Ordering.{nat_cmp, as_partial_cmp};
@@ -6,13 +6,18 @@ ghost use Rattle.std.proofs.Common.{refl};
 ghost use Rattle.ps_mono.specs.Orders.{mono_total, mono_ties, mono_partial_order};
 ghost use Rattle.std.proofs.lemmas.Cmp.{nat_list_eq_equiv};
 ghost use Rattle.ps_mono.specs.Sets.{stands, IsVarSet, mono_cmp, holds};
+ghost use Rattle.ps_mono.specs.Keys.{order_key};
 
 use super::bits::Bits;
+use super::keys::with_word;
 use super::select::nth_one;
 use super::words::{count_vars, joined_words};
 use std::alloc::{AllocError, Global};
 use std::cmp::Ordering;
 use std::marker::Model;
+
+// How many variables fit into a number of 64 bits, at nine each, beside how many there are.
+const MOST_IN_KEY: u32 = 6;
 
 /// A monomial: a set of variables below 512, whose product it is. Clauses see the ascending list of
 /// its variables.
@@ -250,6 +255,25 @@ impl Mono {
             }
         }
         Ordering::Equal
+    }
+
+    /// A number by which monomials of at most six variables are sorted: it has the degree, and behind it
+    /// the ascending variables at nine bits each. So of two such monomials the one that `compare` puts
+    /// first has the lower number, and only equal ones have the same. With more variables it is the
+    /// highest number of all.
+    #[inline]
+    pub fn order_key(&self) -> u64
+        ensures value { result ≡ order_key self.now }
+        ensures order { length self.now ≤ 6 → (m : List ℕ) → IsVarSet m → length m ≤ 6 → nat_cmp result (order_key m) ≡ mono_cmp self.now m }
+    {
+        if self.degree > MOST_IN_KEY {
+            return u64::MAX;
+        }
+        let mut key = u64::from(self.degree);
+        for i in 0..8u64 {
+            key = with_word(key, self.words[i as usize], 64 * i);
+        }
+        key
     }
 
     /// Whether all variables of the monomial are true.

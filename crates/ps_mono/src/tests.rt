@@ -38,6 +38,18 @@ fn words(rt: HostRuntime) -> Result<(), Fail> {
     Ok(())
 }
 
+// Numbers by which short monomials are sorted.
+#[test]
+fn keys(rt: HostRuntime) -> Result<(), Fail> {
+    let low = Mono::var(3);
+    let wide = Mono::var(511).union(&low);
+    assert_eq!(rt; Mono::one().order_key(), 0);
+    assert_eq!(rt; low.order_key(), 512 + 3);
+    assert_eq!(rt; wide.order_key(), (2 * 512 + 3) * 512 + 511);
+    assert!(rt; Mono::var(511).order_key() < wide.order_key());
+    Ok(())
+}
+
 // Names that close up from word to word, and the variables of several monomials together.
 #[test]
 fn names(rt: HostRuntime) -> Result<(), Fail> {

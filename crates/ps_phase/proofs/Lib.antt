@@ -6,3 +6,4 @@ pub mod Unique
 pub mod Absorbing
 pub mod Runs
 pub mod Weaves
+pub mod Keyed

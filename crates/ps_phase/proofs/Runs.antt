@@ -1,10 +1,13 @@
 -- Terms put in order and summed in place.
-use Rattle.std.proofs.Common.{◌≡◌, ◌≢◌, ℕ, zero, suc, ◌+◌, ◌-◌, ◌%◌, refl, ap, sym, ◌∙◌, subst, arith, ◌<◌, ◌≤◌, List, [], ◌∷◌, ◌++◌, length, drop, take, set, get_or, ◌⊎◌, inl, inr, Less, Equal}
+use Rattle.std.proofs.Common.{◌≡◌, ◌≢◌, ℕ, zero, suc, ◌+◌, ◌-◌, ◌%◌, refl, ap, sym, ◌∙◌, subst, arith, ◌<◌, ◌≤◌, List, [], ◌∷◌, ◌++◌, length, drop, take, set, get_or, ◌⊎◌, inl, inr, Bool, true, false, nat_eq, Ordering, Less, Equal, Greater}
+use Rattle.std.specs.Ordering.{is_eq}
+use Rattle.std.specs.Cmp.Lexicographic.{pointwise}
 use Rattle.std.proofs.lemmas.Bool.{cases_eq}
 use Rattle.std.proofs.lemmas.List.{take_more_set, get_or-set_other}
 use Rattle.std.proofs.Math.ListN.{length-set}
 use Rattle.ps_phase.specs.declared.terms.Term.{Term}
 use Rattle.ps_mono.specs.Sets.{mono_cmp, IsVarSet}
+use Rattle.ps_mono.specs.Orders.{mono_ties}
 use Rattle.ps_mono.proofs.Orders.{mono_trans}
 use Rattle.ps_phase.specs.Phases.{TermBefore, IsPhasePoly, AllSmall}
 use Rattle.ps_phase.specs.Adding.{combined_terms}
@@ -129,3 +132,18 @@ runs_end xs ts us k r i end run g l p = combined_end xs (take k ts) (take r us) 
 
 pub runs_small : (xs ts : List Term) (k i end : ℕ) (run : Term) → Runs xs ts k i end run → end ≤ i → AllSmall xs
 runs_small xs ts k i end run g l = small_end xs i (omega (arith, g.ended)) g.known
+
+-- ---- what `==` says
+tie_equal : (o : Ordering) → is_eq o ≡ true → Equal ≡ o
+tie_equal Less e = cc
+tie_equal Equal e = refl
+tie_equal Greater e = cc
+
+pub eq_tied : (b : Bool) (m k : List ℕ) → b ≡ pointwise nat_eq m k → b ≡ true → Equal ≡ mono_cmp m k
+eq_tied b m k e h = tie_equal (mono_cmp m k) (sym (mono_ties m k) ∙ sym e ∙ h)
+
+pub eq_not_tied : (b : Bool) (m k : List ℕ) → b ≡ pointwise nat_eq m k → b ≡ false → mono_cmp m k ≡ Equal → ⊥
+eq_not_tied b m k e h t = no (sym h ∙ e ∙ mono_ties m k ∙ ap is_eq t)
+  where
+    no : false ≡ true → ⊥
+    no e = cc

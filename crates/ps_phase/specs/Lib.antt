@@ -2,3 +2,4 @@ pub mod Phases
 pub mod Adding
 pub mod Placing
 pub mod Weaving
+pub mod Short

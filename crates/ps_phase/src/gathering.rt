@@ -6,7 +6,6 @@ ghost use Rattle.ps_phase.specs.Placing.{Follows, IsPut};
 use super::terms::Term;
 use ps_mono::Mono;
 use ps_ring::Phase;
-use std::cmp::Ordering;
 
 // Whether the term at a place has a phase, and its monomial comes after that of the one before it.
 fn follows(terms: &[Term], place: usize) -> bool
@@ -64,7 +63,7 @@ pub(crate) fn combine(terms: &mut Vec<Term>)
         let term = terms[i];
         term.mono.known();
         let units = term.phase.units();
-        if let Ordering::Equal = run.mono.compare(&term.mono) {
+        if run.mono == term.mono {
             run.phase = run.phase.add(term.phase);
         } else {
             kept = put_at(terms, kept, &run);

@@ -5,6 +5,7 @@ mod gathering;
 mod inplace;
 pub mod merging;
 pub mod poly;
+mod sorting;
 pub mod terms;
 mod weaving;
 

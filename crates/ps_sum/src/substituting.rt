@@ -114,11 +114,12 @@ fn push_multiples(out: &mut Vec<Term>, mono: &Mono, terms: &[Term]) -> Result<()
     ensures value { OnOk result ((a : ℕ → Bool) → phase_value out.new.items a ≡ phase_value out.old.items a + times (holds mono.now a) (phase_value terms.now a)) }
     ensures variables { OnOk result ((u : ℕ) → stands u mono.now ≡ false → phase_occurs u terms.now ≡ false → phase_occurs u out.old.items ≡ false → phase_occurs u out.new.items ≡ false) }
 {
+    out.reserve(terms.len())?;
     for term in terms {
-        out.push(Term {
+        out.push_reserved(Term {
             mono: mono.union(&term.mono),
             phase: term.phase,
-        })?;
+        });
     }
     Ok(())
 }
