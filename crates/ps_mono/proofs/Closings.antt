@@ -6,12 +6,12 @@ use Rattle.std.specs.Int.{bit_at}
 use Rattle.std.proofs.lemmas.Nat.{and_le_l, one_shl, or_lt, pow_pos}
 use Rattle.std.proofs.lemmas.Nat.Bits.{bit_at_and, bit_at_or, bit_at_not, bit_at-lt, bit_at-suc, bit_at-zero, bit_at_lowest, bit_at_above, bit_at_ones, bit_at_ones_above, bit_at_cat_low, bit_at_cat_high}
 use Rattle.std.proofs.lemmas.List.{get_or-set_same, get_or-set_other, get_or_past}
-use Rattle.ps_mono.specs.Sets.{is_set, has, put, members, vars, stands, digit, Fits8, IsCounted}
-use Rattle.ps_mono.specs.Names.{opened, IsBelow}
+use Rattle.ps_mono.specs.Sets.{is_set, has, put, members, vars, stands, digit, number, Fits8, IsCounted}
+use Rattle.ps_mono.specs.Names.{opened}
 use Rattle.ps_mono.specs.Lists.{members_split}
-use Rattle.ps_mono.specs.Words.{has_at}
+use Rattle.ps_mono.specs.Words.{has_at, number_is}
 use Rattle.ps_mono.proofs.Calls.{stands_vars, stands_not}
-use Rattle.ps_mono.proofs.Counts.{length_put, digit_off}
+use Rattle.ps_mono.proofs.Counts.{put_fits, length_put, digit_off}
 
 -- ---- one word
 abbrev pub closed_bits : ℕ → ℕ → ℕ → ℕ
@@ -119,23 +119,9 @@ some_below v start j h k l = ap (λ b. nat_eq b 1) (ap (λ x. bit_at (x - 1) j) 
     by (inl a) = ap (λ b. nat_eq b 1) (bit_at_ones (v - start) j a) ∙ sym (is_below v (start + j) (omega arith))
     by (inr a) = ap (λ b. nat_eq b 1) (bit_at_ones_above (v - start) j a) ∙ sym (not_below v (start + j) (omega arith))
 
--- ---- the words of the bits below v, up to place i
+-- ---- x is the word at place k of the bits below v
 abbrev pub BelowAt : ℕ → ℕ → ℕ → Type 0
 BelowAt v k x = (j : ℕ) → j < 64 → is_set x j ≡ nat_lt (64 * k + j) v
-
-pub put_below : (out : List ℕ) (v i x : ℕ) → length out ≡ 8 → i < 8 → ((k : ℕ) → k < i → BelowAt v k (get_or out k 0)) → BelowAt v i x → (k : ℕ) → k < i + 1 → BelowAt v k (get_or (set out i x) k 0)
-put_below out v i x s l old new k h j m = by (cases_eq k i)
-  where
-    by : ((k ≡ i) ⊎ (k ≢ i)) → is_set (get_or (set out i x) k 0) j ≡ nat_lt (64 * k + j) v
-    by (inl e) =
-        ap (λ n. is_set (get_or (set out i x) n 0) j) e ∙ ap (λ y. is_set y j) (get_or-set_same out i x 0 (omega arith)) ∙ new j m
-        ∙ ap (λ n. nat_lt (64 * n + j) v) (sym e)
-    by (inr d) = rw get_or-set_other (old k (omega arith) j m)
-
-pub below_all : (out : List ℕ) (v : ℕ) → ((k : ℕ) → k < 8 → BelowAt v k (get_or out k 0)) → IsBelow out v
-below_all out v h w l =
-    let e : w ≡ 64 * (w / 64) + w % 64 = omega arith in
-    ap (has out) e ∙ has_at out (w / 64) (w % 64) (omega arith) ∙ h (w / 64) (omega arith) (w % 64) (omega arith) ∙ ap (λ n. nat_lt n v) (sym e)
 
 -- ---- names
 pub opened_low : (v w : ℕ) → w < v → opened v w ≡ w
@@ -150,44 +136,95 @@ opened_high v w h = grind (arith, nat_tests)
 abbrev pub ClosedAt : List ℕ → ℕ → ℕ → ℕ → Type 0
 ClosedAt ws v k x = (j : ℕ) → j < 64 → is_set x j ≡ has ws (opened v (64 * k + j))
 
-pub closed_at : (ws below : List ℕ) (v k x : ℕ) → k < 8 → IsBelow below v → ((j : ℕ) → j < 64 → is_set (get_or below k 0) j ≡ true → is_set x j ≡ is_set (get_or ws k 0) j)
-    → ((j : ℕ) → j < 63 → is_set (get_or below k 0) j ≡ false → is_set x j ≡ is_set (get_or ws k 0) (j + 1)) → (is_set (get_or below k 0) 63 ≡ false → is_set x 63 ≡ is_set (get_or ws (k + 1) 0) 0)
-    → ClosedAt ws v k x
-closed_at ws below v k x h b low high top j l = by (cases_lt (64 * k + j) v) (cases_lt j 63)
+closed_at : (ws : List ℕ) (v k kept x : ℕ) → BelowAt v k kept → ((j : ℕ) → j < 64 → is_set kept j ≡ true → is_set x j ≡ is_set (get_or ws k 0) j) → ((j : ℕ) → j < 63 → is_set kept j ≡ false → is_set x j ≡ is_set (get_or ws k 0) (j + 1))
+    → (is_set kept 63 ≡ false → is_set x 63 ≡ is_set (get_or ws (k + 1) 0) 0) → ClosedAt ws v k x
+closed_at ws v k kept x b low high top j l = by (cases_lt (64 * k + j) v) (cases_lt j 63)
   where
-    mask : (i : ℕ) → i < 64 → is_set (get_or below k 0) i ≡ nat_lt (64 * k + i) v
-    mask i m = sym (has_at below k i m) ∙ b (64 * k + i) (omega arith)
-
     by : ((64 * k + j < v) ⊎ (v ≤ 64 * k + j)) → ((j < 63) ⊎ (63 ≤ j)) → is_set x j ≡ has ws (opened v (64 * k + j))
-    by (inl a) n = low j l (mask j l ∙ is_below v (64 * k + j) a) ∙ sym (ap (has ws) (opened_low v (64 * k + j) a) ∙ has_at ws k j l)
+    by (inl a) n = low j l (b j l ∙ is_below v (64 * k + j) a) ∙ sym (ap (has ws) (opened_low v (64 * k + j) a) ∙ has_at ws k j l)
     by (inr a) (inl n) =
         let e : suc (64 * k + j) ≡ 64 * k + (j + 1) = omega arith in
-        high j n (mask j l ∙ not_below v (64 * k + j) a) ∙ sym (ap (has ws) (opened_high v (64 * k + j) a ∙ e) ∙ has_at ws k (j + 1) (omega arith))
+        high j n (b j l ∙ not_below v (64 * k + j) a) ∙ sym (ap (has ws) (opened_high v (64 * k + j) a ∙ e) ∙ has_at ws k (j + 1) (omega arith))
     by (inr a) (inr n) =
         let d : j ≡ 63 = omega arith in
         let e : suc (64 * k + j) ≡ 64 * (k + 1) + 0 = omega arith in
         let o : v ≤ 64 * k + 63 = omega arith in
-        ap (is_set x) d ∙ top (mask 63 (omega arith) ∙ not_below v (64 * k + 63) o) ∙ sym (ap (has ws) (opened_high v (64 * k + j) a ∙ e) ∙ has_at ws (k + 1) 0 (omega arith))
+        ap (is_set x) d ∙ top (b 63 (omega arith) ∙ not_below v (64 * k + 63) o) ∙ sym (ap (has ws) (opened_high v (64 * k + j) a ∙ e) ∙ has_at ws (k + 1) 0 (omega arith))
 
-pub put_closed : (ws out : List ℕ) (v i x : ℕ) → length out ≡ 8 → i < 8 → ((k : ℕ) → k < i → ClosedAt ws v k (get_or out k 0)) → ClosedAt ws v i x → (k : ℕ) → k < i + 1 → ClosedAt ws v k (get_or (set out i x) k 0)
-put_closed ws out v i x s l old new k h j m = by (cases_eq k i)
+-- the words up to place i are closed up, and the others are as they were
+pub record Shifting (v i : ℕ) (old words : List ℕ) : Type 0 where
+  pub fits : Fits8 words
+  pub done : (k : ℕ) → k < i → ClosedAt old v k (get_or words k 0)
+  pub rest : (k : ℕ) → i ≤ k → get_or words k 0 ≡ get_or old k 0
+
+pub shift_start : (v : ℕ) (old : List ℕ) → Fits8 old → Shifting v (v / 64) old old
+shift_start v old f = record {
+  fits = f;
+  done = λ k h j l. sym (ap (has old) (opened_low v (64 * k + j) (omega arith)) ∙ has_at old k j l);
+  rest = λ k h. refl;
+}
+
+pub shift_more : (v i kept x : ℕ) (old words : List ℕ) → i < 8 → x < 2 ^ 64 → BelowAt v i kept → ((j : ℕ) → j < 64 → is_set kept j ≡ true → is_set x j ≡ is_set (get_or words i 0) j) → ((j : ℕ) → j < 63 → is_set kept j ≡ false → is_set x j ≡ is_set (get_or words i 0) (j + 1))
+    → (is_set kept 63 ≡ false → is_set x 63 ≡ is_set (get_or words (i + 1) 0) 0) → Shifting v i old words → Shifting v (i + 1) old (set words i x)
+shift_more v i kept x old words h s b low high top f = record {
+  fits = put_fits words i x f.fits h s;
+  done = λ k l. by k l (cases_eq k i);
+  rest = λ k l. let d : k ≢ i = omega arith in rw get_or-set_other (f.rest k (omega arith));
+}
   where
-    by : ((k ≡ i) ⊎ (k ≢ i)) → is_set (get_or (set out i x) k 0) j ≡ has ws (opened v (64 * k + j))
-    by (inl e) =
-        ap (λ n. is_set (get_or (set out i x) n 0) j) e ∙ ap (λ y. is_set y j) (get_or-set_same out i x 0 (omega arith)) ∙ new j m
-        ∙ ap (λ n. has ws (opened v (64 * n + j))) (sym e)
-    by (inr d) = rw get_or-set_other (old k (omega arith) j m)
+    here : get_or words i 0 ≡ get_or old i 0
+    here = f.rest i (omega arith)
 
-pub closed_all : (ws out : List ℕ) (v : ℕ) → ((k : ℕ) → k < 8 → ClosedAt ws v k (get_or out k 0)) → (w : ℕ) → w < 512 → has out w ≡ has ws (opened v w)
+    next : get_or words (i + 1) 0 ≡ get_or old (i + 1) 0
+    next = f.rest (i + 1) (omega arith)
+
+    new : ClosedAt old v i x
+    new = closed_at old v i kept x b (λ j m e. low j m e ∙ ap (λ y. is_set y j) here) (λ j m e. high j m e ∙ ap (λ y. is_set y (j + 1)) here) (λ e. top e ∙ ap (λ y. is_set y 0) next)
+
+    by : (k : ℕ) → k < i + 1 → ((k ≡ i) ⊎ (k ≢ i)) → ClosedAt old v k (get_or (set words i x) k 0)
+    by k l (inl e) = λ j m.
+        ap (λ n. is_set (get_or (set words i x) n 0) j) e ∙ ap (λ y. is_set y j) (get_or-set_same words i x 0 (omega (arith, f.fits.size))) ∙ new j m
+        ∙ ap (λ n. has old (opened v (64 * n + j))) (sym e)
+    by k l (inr d) = λ j m. rw get_or-set_other (f.done k (omega arith) j m)
+
+closed_all : (ws out : List ℕ) (v : ℕ) → ((k : ℕ) → k < 8 → ClosedAt ws v k (get_or out k 0)) → (w : ℕ) → w < 512 → has out w ≡ has ws (opened v w)
 closed_all ws out v h w l =
     let e : w ≡ 64 * (w / 64) + w % 64 = omega arith in
     ap (has out) e ∙ has_at out (w / 64) (w % 64) (omega arith) ∙ h (w / 64) (omega arith) (w % 64) (omega arith) ∙ ap (λ n. has ws (opened v n)) (sym e)
 
--- ---- the set
 is_set_zero : (x i : ℕ) → x ≡ 0 → is_set x i ≡ false
 unfolding is_set
 is_set_zero x i h = ap (λ y. nat_eq (bit_at y i) 1) h ∙ ap (λ b. nat_eq b 1) (bit_at-zero i)
 
+-- no bit in the words that are 0
+none_past : (ws : List ℕ) (used u : ℕ) → ((k : ℕ) → used ≤ k → get_or ws k 0 ≡ 0) → 64 * used ≤ u → has ws u ≡ false
+unfolding has
+none_past ws used u h l = is_set_zero _ (u % 64) (h (u / 64) (omega arith))
+
+pub shift_end : (v i used : ℕ) (old words : List ℕ) → v < 64 * used → used ≤ i → ((k : ℕ) → used ≤ k → get_or old k 0 ≡ 0) → Shifting v i old words → (w : ℕ) → w < 512 → has words w ≡ has old (opened v w)
+shift_end v i used old words h l z f = closed_all old words v (λ k m. by k (cases_lt k i))
+  where
+    by : (k : ℕ) → ((k < i) ⊎ (i ≤ k)) → ClosedAt old v k (get_or words k 0)
+    by k (inl a) = f.done k a
+    by k (inr a) = λ j m. is_set_zero _ j (f.rest k a ∙ z k (omega arith)) ∙ sym (none_past old used _ z (omega (arith, opened_high v (64 * k + j) (omega arith))))
+
+number_none : (i n : ℕ) → number (λ j. false) i n ≡ 0
+unfolding number digit
+number_none i zero = refl
+number_none i (suc n) = omega (arith, number_none (suc i) n)
+
+-- no variable from `names` on, so no bit in the words above
+pub empty_past : (ws m : List ℕ) (names used k : ℕ) → Fits8 ws → vars ws ≡ m → ((w : ℕ) → names ≤ w → stands w m ≡ false) → names ≤ 64 * used → used ≤ k → get_or ws k 0 ≡ 0
+empty_past ws m names used k f e h l n = by (cases_lt k 8)
+  where
+    off_at : k < 8 → (j : ℕ) → j < 64 → false ≡ is_set (get_or ws k 0) j
+    off_at a j b = sym (sym (has_at ws k j b) ∙ sym (stands_vars ws (64 * k + j) (omega arith)) ∙ ap (stands (64 * k + j)) e ∙ h (64 * k + j) (omega arith))
+
+    by : ((k < 8) ⊎ (8 ≤ k)) → get_or ws k 0 ≡ 0
+    by (inl a) = sym (number_is (λ j. false) 0 64 (get_or ws k 0) (f.small k) (off_at a)) ∙ number_none 0 64
+    by (inr a) = get_or_past ws k 0 (omega (arith, f.size))
+
+-- ---- the set
 past_end : (ws : List ℕ) (w : ℕ) → Fits8 ws → 512 ≤ w → w < 576 → has ws w ≡ false
 past_end ws w f h l =
     let e : w ≡ 64 * 8 + (w - 512) = omega arith in

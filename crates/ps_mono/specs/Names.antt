@@ -1,6 +1,5 @@
 -- Names close up where a variable is gone.
-use Rattle.std.specs.Prelude.{ℕ, suc, ◌≡◌, ◌<◌, ◌-◌, cond, nat_lt, List}
-use Rattle.ps_mono.specs.Sets.{has}
+use Rattle.std.specs.Prelude.{ℕ, suc, ◌-◌, cond, nat_lt}
 
 -- the new name of u once v is gone
 unfoldable pub closed : ℕ → ℕ → ℕ
@@ -9,7 +8,3 @@ closed v u = cond (nat_lt v u) (u - 1) u
 -- the old name of w
 unfoldable pub opened : ℕ → ℕ → ℕ
 opened v w = cond (nat_lt w v) w (suc w)
-
--- the words have the bits below v
-abbrev pub IsBelow : List ℕ → ℕ → Type 0
-IsBelow ws v = (w : ℕ) → w < 512 → has ws w ≡ nat_lt w v

@@ -55,15 +55,16 @@ fn keys(rt: HostRuntime) -> Result<(), Fail> {
 fn names(rt: HostRuntime) -> Result<(), Fail> {
     let wide = Mono::var(511).union(&Mono::var(64)).union(&Mono::var(3));
     assert!(rt; !wide.contains(10));
-    let lower = Closing::of(10).closed(&wide);
+    let mut lower = wide;
+    Closing::within(10, 512).close(&mut lower);
     assert_eq!(rt;
         lower,
         Mono::var(510).union(&Mono::var(63)).union(&Mono::var(3))
     );
     assert_eq!(rt; lower.degree(), 3);
-    let low = Mono::var(3);
-    assert!(rt; !low.contains(4));
-    assert_eq!(rt; Closing::of(4).closed(&low), low);
+    let mut low = Mono::var(3);
+    Closing::within(4, 5).close(&mut low);
+    assert_eq!(rt; low, Mono::var(3));
     let mut support = Bits::zero();
     support.add(&wide);
     support.add(&Mono::var(64));

@@ -1,6 +1,6 @@
 ghost use Rattle.std.specs.Prelude.{◌≡◌, ℕ, ◌<◌, ◌≤◌, ◌+◌, ◌^◌, length, get_or, bit_or, nat_lt, true, false, ◌*◌};
 ghost use Rattle.ps_mono.specs.Sets.{is_set, has, vars, Fits8};
-ghost use Rattle.ps_mono.specs.Names.{opened, IsBelow};
+ghost use Rattle.ps_mono.specs.Names.{opened};
 
 // How many variables the words have.
 #[inline]
@@ -44,6 +44,7 @@ fn word_after(words: &[u64; 8], i: usize) -> u64
 }
 
 // The bits of word i below bit v of all words.
+#[inline]
 fn word_below(v: u16, i: u16) -> u64
     requires { i < 8 }
     ensures bits { (j : ℕ) → j < 64 → is_set result j ≡ nat_lt (64 * i + j) v }
@@ -59,18 +60,6 @@ fn word_below(v: u16, i: u16) -> u64
     }
 }
 
-// The words with the bits below bit v.
-pub fn below_words(v: u16) -> [u64; 8]
-    ensures fits { Fits8 result }
-    ensures bits { IsBelow result v }
-{
-    let mut out = [0; 8];
-    for i in 0..8 {
-        out[i] = word_below(v, i as u16);
-    }
-    out
-}
-
 // The bits of `kept` stay, and each other bit is the one above it; the first of the next word comes
 // in at the top.
 #[inline]
@@ -84,17 +73,23 @@ fn closed_word(word: u64, next: u64, kept: u64) -> u64
     (word & kept) | (lower & !kept)
 }
 
-// The words with each bit above bit v one lower, where `below` has the bits below v; bit v goes.
+// Makes each bit above bit v one lower, in place; bit v goes. The words from `used` on are 0.
 #[inline]
-pub fn closed_words(words: &[u64; 8], below: &[u64; 8]) -> [u64; 8]
-    requires words { Fits8 words.now }
-    requires below { Fits8 below.now }
-    ensures fits { Fits8 result }
-    ensures bits { (v : ℕ) → IsBelow below.now v → (w : ℕ) → w < 512 → has result w ≡ has words.now (opened v w) }
+pub fn close_words(words: &mut [u64; 8], v: u16, used: usize)
+    requires words { Fits8 words.old }
+    requires inside { v < 64 * used }
+    requires used { used ≤ 8 }
+    requires empty { (i : ℕ) → used ≤ i → get_or words.old i 0 ≡ 0 }
+    ensures fits { Fits8 words.new }
+    ensures bits { (w : ℕ) → w < 512 → has words.new w ≡ has words.old (opened v w) }
 {
-    let mut out = [0; 8];
-    for i in 0..8 {
-        out[i] = closed_word(words[i], word_after(words, i), below[i]);
+    let first = (v / 64) as usize;
+    words[first] = closed_word(
+        words[first],
+        word_after(words, first),
+        word_below(v, v / 64),
+    );
+    for i in first + 1..used {
+        words[i] = closed_word(words[i], word_after(words, i), 0);
     }
-    out
 }

@@ -1,5 +1,6 @@
 -- Names close up in place, and order stays.
 use Rattle.std.proofs.Common.{◌≡◌, ◌≢◌, ℕ, zero, suc, ◌+◌, ◌-◌, refl, ap, ap₂, sym, ◌∙◌, subst, arith, ◌<◌, ◌≤◌, Bool, true, false, cond, nat_eq, nat_lt, ◌&&◌, ◌||◌, List, [], ◌∷◌, ◌++◌, length, take, set, get_or, nat_cmp, ◌⊎◌, inl, inr}
+use Rattle.std.proofs.lemmas.Bool.{cases_lt}
 use Rattle.std.proofs.lemmas.Bool.Decides.{nat_tests}
 use Rattle.std.proofs.lemmas.List.{take_more, take_all, get_or-set_other}
 use Rattle.std.proofs.Math.ListN.{length-set}
@@ -20,6 +21,7 @@ use Rattle.ps_sum.specs.Forms.{AllPolys}
 use Rattle.ps_sum.specs.Names.{closed, opened}
 use Rattle.ps_sum.specs.Outs.{values, outs_occur}
 use Rattle.ps_rules.specs.Closing.{closed_mono, closed_term, closed_terms, closed_monos, closed_polys}
+use Rattle.ps_rules.proofs.Moved.{Moved, moved, term_free}
 
 pub off : {b : Bool} → b ≡ true → b ≡ false → ⊥
 off e f = cc
@@ -314,3 +316,40 @@ none_left v (t ∷ ts) = by (stands v t.mono) refl (none_left v ts)
 
 pub settled_form : (v : ℕ) (p ts xs : List Term) → ts ≡ p → xs ≡ closed_terms v (terms_without v ts) → IsPhasePoly ts → IsPhasePoly xs
 settled_form v p ts xs e f s = subst IsPhasePoly (sym f) (form_closed v (terms_without v ts) (none_left v ts) (selected_form false v ts s))
+
+-- the term is copied to its new place, and closed up there
+pub settling_moved : (v : ℕ) (all xs mid : List Term) (i kept : ℕ) (t z : Term) → i < length xs → t ≡ get_or xs i t → ((d : Term) → mid ≡ set xs kept (get_or xs i d)) → z ≡ get_or mid kept z → Settling v all i kept xs → Moved i kept t z xs mid
+settling_moved v all xs mid i kept t z l e f ez s = moved i kept t z xs mid (omega (arith, s.low)) e f ez
+
+pub settling_below : (v w : ℕ) (all xs mid : List Term) (i kept : ℕ) (t z : Term) → i < length xs → t ≡ get_or xs i t → ((d : Term) → mid ≡ set xs kept (get_or xs i d)) → z ≡ get_or mid kept z → phase_occurs w all ≡ false → Settling v all i kept xs → stands w z.mono ≡ false
+settling_below v w all xs mid i kept t z l e f ez o s =
+    ap (λ (x : Term). stands w x.mono) (settling_moved v all xs mid i kept t z l e f ez s).same ∙ term_free w all i t t (omega (arith, s.size)) (e ∙ s.rest i t (omega arith)) o
+
+-- ---- nothing stands above the variable
+name_stays : (v u : ℕ) → u ≤ v → closed v u ≡ u
+unfolding closed
+name_stays v u h = grind (arith, nat_tests)
+
+mono_stays : (v : ℕ) (m : List ℕ) → ((u : ℕ) → v < u → stands u m ≡ false) → closed_mono v m ≡ m
+unfolding stands
+mono_stays v [] f = refl
+mono_stays v (u ∷ m) f = ap₂ (λ (x : ℕ) (r : List ℕ). x ∷ r) (name_stays v u (by (cases_lt v u))) (mono_stays v m (λ w l. (neither (nat_eq w u) (stands w m) (f w l)).1))
+  where
+    by : ((v < u) ⊎ (u ≤ v)) → u ≤ v
+    by (inl l) = absurd (off (nat_eq_same u) (neither (nat_eq u u) (stands u m) (f u l)).0)
+    by (inr l) = l
+
+poly_stays : (v : ℕ) (f : List (List ℕ)) → ((u : ℕ) → v < u → occurs u f ≡ false) → closed_monos v f ≡ f
+unfolding occurs
+poly_stays v [] n = refl
+poly_stays v (m ∷ f) n =
+    ap₂ (λ (x : List ℕ) (r : List (List ℕ)). x ∷ r) (mono_stays v m (λ u l. (neither (stands u m) (occurs u f) (n u l)).0)) (poly_stays v f (λ u l. (neither (stands u m) (occurs u f) (n u l)).1))
+
+pub polys_stay : (v : ℕ) (fs : List (List (List ℕ))) → ((u : ℕ) → v < u → outs_occur u fs ≡ false) → closed_polys v fs ≡ fs
+unfolding outs_occur
+polys_stay v [] n = refl
+polys_stay v (f ∷ fs) n =
+    ap₂ (λ (x : List (List ℕ)) (r : List (List (List ℕ))). x ∷ r) (poly_stays v f (λ u l. (neither (occurs u f) (outs_occur u fs) (n u l)).0)) (polys_stay v fs (λ u l. (neither (occurs u f) (outs_occur u fs) (n u l)).1))
+
+pub last_name : (v names : ℕ) → nat_eq (v + 1) names ≡ true → names ≡ v + 1
+last_name v names e = grind (arith, nat_tests)

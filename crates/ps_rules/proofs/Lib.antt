@@ -9,6 +9,7 @@ pub mod Windows
 pub mod Earliest
 pub mod Closes
 pub mod Mapped
+pub mod Moved
 pub mod Quotients
 pub mod Takes
 pub mod Replaces

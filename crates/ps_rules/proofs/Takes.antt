@@ -433,15 +433,15 @@ hh_parts S y0 y1 q low high products inner added outer old phase replaced mid ou
   outs_are = eu ∙ ap (closed_polys low) em;
 }
 
--- what the calls on the outputs ask
-pub high_outs : (S : PathSum) (y0 y1 : ℕ) (q : List (List ℕ)) (low high : ℕ) (replaced : List (List (List ℕ))) → HhApplies S y0 y1 → IsQuotient S (Hh y0 y1) q → high ≡ max (S.n + y0) (S.n + y1) → low ≡ min (S.n + y0) (S.n + y1) → IsReplaced (S.n + y1) q S.outs replaced → outs_occur high replaced ≡ false
-high_outs S y0 y1 q low high replaced h d eh el r =
-    let f = replaced_free S y0 y1 q replaced h d r in
-    (outs_free_sorted (S.n + y0) (S.n + y1) low high replaced (sorted_of (S.n + y0) (S.n + y1) low high (apart_names S.n y0 y1 h.apart) eh el) f.0 f.1).1
+-- what the calls on the terms and the outputs ask
+pub products_under : (S : PathSum) (y0 y1 : ℕ) (q : List (List ℕ)) (products : List Term) → IsQuotient S (Hh y0 y1) q
+    → ((u : ℕ) → (phase_occurs u (terms_without (S.n + y0) (terms_with (S.n + y1) S.phase)) && not (nat_eq u (S.n + y1))) ≡ false → occurs u q ≡ false → phase_occurs u products ≡ false) → Under (S.n + S.m) products
+products_under S y0 y1 q products d f u k = f u (and_left _ _ (without_free (S.n + y0) u (terms_with (S.n + y1) S.phase) (with_free (S.n + y1) u S.phase (S.phase_below u k)))) (d.known u (S.phase_below u k))
 
-pub low_outs : (S : PathSum) (y0 y1 : ℕ) (q : List (List ℕ)) (low high : ℕ) (replaced mid : List (List (List ℕ))) → HhApplies S y0 y1 → IsQuotient S (Hh y0 y1) q → high ≡ max (S.n + y0) (S.n + y1) → low ≡ min (S.n + y0) (S.n + y1) → IsReplaced (S.n + y1) q S.outs replaced → mid ≡ closed_polys high replaced → outs_occur low mid ≡ false
-low_outs S y0 y1 q low high replaced mid h d eh el r em =
-    let s = sorted_of (S.n + y0) (S.n + y1) low high (apart_names S.n y0 y1 h.apart) eh el in
+pub outs_under : (S : PathSum) (y1 : ℕ) (q : List (List ℕ)) (replaced : List (List (List ℕ))) → ((u : ℕ) → phase_occurs u S.phase ≡ false → occurs u q ≡ false) → IsReplaced (S.n + y1) q S.outs replaced → OutsUnder (S.n + S.m) replaced
+outs_under S y1 q replaced f r u k = r.known u (and_left _ _ (S.outs_below u k)) (f u (S.phase_below u k))
+
+pub sorted_outs : (S : PathSum) (y0 y1 : ℕ) (q : List (List ℕ)) (low high : ℕ) (replaced : List (List (List ℕ))) → HhApplies S y0 y1 → IsQuotient S (Hh y0 y1) q → high ≡ max (S.n + y0) (S.n + y1) → low ≡ min (S.n + y0) (S.n + y1) → IsReplaced (S.n + y1) q S.outs replaced → (outs_occur low replaced ≡ false) × (outs_occur high replaced ≡ false)
+sorted_outs S y0 y1 q low high replaced h d eh el r =
     let f = replaced_free S y0 y1 q replaced h d r in
-    let g = outs_free_sorted (S.n + y0) (S.n + y1) low high replaced s f.0 f.1 in
-    ap (outs_occur low) em ∙ low_free low high replaced s.order g.0 g.1
+    outs_free_sorted (S.n + y0) (S.n + y1) low high replaced (sorted_of (S.n + y0) (S.n + y1) low high (apart_names S.n y0 y1 h.apart) eh el) f.0 f.1

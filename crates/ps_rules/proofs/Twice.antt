@@ -1,17 +1,22 @@
 -- The loop that closes two names up at once.
-use Rattle.std.proofs.Common.{◌≡◌, ◌≢◌, ℕ, suc, ◌+◌, refl, ap, ap₂, sym, ◌∙◌, subst, arith, ◌<◌, ◌≤◌, Bool, true, false, not, ◌&&◌, List, [], ◌∷◌, ◌++◌, length, take, set, get_or}
+use Rattle.std.proofs.Common.{◌≡◌, ◌≢◌, ℕ, suc, ◌+◌, refl, ap, ap₂, sym, ◌∙◌, subst, arith, ◌<◌, ◌≤◌, Bool, true, false, not, ◌&&◌, List, [], ◌∷◌, ◌++◌, length, map, take, set, get_or, ◌⊎◌, inl, inr}
+use Rattle.std.proofs.lemmas.Bool.{cases_lt}
 use Rattle.std.proofs.lemmas.Bool.Decides.{nat_tests}
 use Rattle.std.proofs.lemmas.List.{take_more, take_all, get_or-set_other}
 use Rattle.std.proofs.Math.ListN.{length-set}
 use Rattle.std.proofs.Math.Seq.{take-suc-set}
 use Rattle.ps_mono.specs.Sets.{stands}
+use Rattle.ps_bool.specs.Polys.{occurs, IsPoly}
 use Rattle.ps_phase.specs.declared.terms.Term.{Term}
-use Rattle.ps_phase.specs.Phases.{IsPhasePoly}
+use Rattle.ps_phase.specs.Phases.{phase_occurs, IsPhasePoly}
 use Rattle.ps_phase.specs.Adding.{terms_where, terms_without}
 use Rattle.ps_phase.proofs.Scaling.{selected_form}
 use Rattle.ps_sum.specs.Names.{opened}
-use Rattle.ps_rules.specs.Closing.{closed_mono, closed_term, closed_terms, settled_terms}
-use Rattle.ps_rules.proofs.Closes.{stands_closed, without_push, without_skip, terms_push, form_closed, none_left}
+use Rattle.ps_sum.specs.Outs.{outs_occur}
+use Rattle.ps_sum.proofs.Closings.{opened_above}
+use Rattle.ps_rules.specs.Closing.{closed_mono, closed_term, closed_terms, settled_terms, closed_monos, closed_polys}
+use Rattle.ps_rules.proofs.Moved.{Moved, moved, term_free}
+use Rattle.ps_rules.proofs.Closes.{polys_stay, bool_occurs_closed, poly_closed, stands_closed, without_push, without_skip, terms_push, form_closed, none_left}
 
 -- neither stands there
 pub apart_high : (p q : Bool) → (not p && not q) ≡ true → p ≡ false
@@ -102,3 +107,41 @@ settled_is v ts p = form_closed v (terms_without v ts) (none_left v ts) (selecte
 
 pub twice_form : (low high : ℕ) (ts xs : List Term) → xs ≡ twice low high ts → IsPhasePoly ts → IsPhasePoly xs
 twice_form low high ts xs e p = subst IsPhasePoly (sym e) (settled_is low (settled_terms high ts) (settled_is high ts p))
+
+-- the term is copied to its new place, and closed up there
+pub twice_moved : (low high : ℕ) (all xs mid : List Term) (i kept : ℕ) (t z : Term) → i < length xs → t ≡ get_or xs i t → ((d : Term) → mid ≡ set xs kept (get_or xs i d)) → z ≡ get_or mid kept z → Twice low high all i kept xs → Moved i kept t z xs mid
+twice_moved low high all xs mid i kept t z l e f ez s = moved i kept t z xs mid (omega (arith, s.low_is)) e f ez
+
+pub twice_below : (low high w : ℕ) (all xs mid : List Term) (i kept : ℕ) (t z : Term) → i < length xs → t ≡ get_or xs i t → ((d : Term) → mid ≡ set xs kept (get_or xs i d)) → z ≡ get_or mid kept z → phase_occurs w all ≡ false → Twice low high all i kept xs → stands w z.mono ≡ false
+twice_below low high w all xs mid i kept t z l e f ez o s =
+    ap (λ (x : Term). stands w x.mono) (twice_moved low high all xs mid i kept t z l e f ez s).same ∙ term_free w all i t t (omega (arith, s.size)) (e ∙ s.rest i t (omega arith)) o
+
+-- the bound of the names is one lower once the high one is gone
+pub below_low : (high names w : ℕ) (m : List ℕ) → high < suc names → stands high m ≡ false → ((u : ℕ) → suc names ≤ u → stands u m ≡ false) → names ≤ w → stands w (closed_mono high m) ≡ false
+below_low high names w m h n f l = stands_closed high w m n ∙ f (opened high w) (opened_above high w (suc names) h (omega arith))
+
+-- closed up one after the other in each
+pub monos_twice : (low high : ℕ) (f : List (List ℕ)) → closed_monos low (closed_monos high f) ≡ map (λ m. closed_mono low (closed_mono high m)) f
+monos_twice low high [] = refl
+monos_twice low high (m ∷ f) = ap (λ (r : List (List ℕ)). closed_mono low (closed_mono high m) ∷ r) (monos_twice low high f)
+
+pub polys_twice : (low high : ℕ) (fs : List (List (List ℕ))) → closed_polys low (closed_polys high fs) ≡ map (λ f. closed_monos low (closed_monos high f)) fs
+polys_twice low high [] = refl
+polys_twice low high (f ∷ fs) = ap (λ (r : List (List (List ℕ))). closed_monos low (closed_monos high f) ∷ r) (polys_twice low high fs)
+
+pub occurs_low : (low high : ℕ) (f : List (List ℕ)) → low < high → occurs high f ≡ false → occurs low f ≡ false → occurs low (closed_monos high f) ≡ false
+occurs_low low high f h n m = bool_occurs_closed high low f n ∙ ap (λ v. occurs v f) (open_low low high h) ∙ m
+
+pub poly_twice : (low high : ℕ) (f g : List (List ℕ)) → low < high → g ≡ closed_monos low (closed_monos high f) → occurs high f ≡ false → occurs low f ≡ false → IsPoly f → IsPoly g
+poly_twice low high f g h e n m p = subst IsPoly (sym e) (poly_closed low (closed_monos high f) (occurs_low low high f h n m) (poly_closed high f n p))
+
+-- nothing stands above the low one but the high one, which is gone too
+pub outs_stay : (low high names : ℕ) (fs : List (List (List ℕ))) → low < high → high < suc names → names ≡ suc low → outs_occur high fs ≡ false → ((u : ℕ) → suc names ≤ u → outs_occur u fs ≡ false) → fs ≡ closed_polys low (closed_polys high fs)
+outs_stay low high names fs h k e n f =
+    let o : suc low ≡ high = omega arith in
+    let a : (u : ℕ) → high < u → outs_occur u fs ≡ false = (λ u l. f u (omega arith)) in
+    sym (ap (closed_polys low) (polys_stay high fs a) ∙ polys_stay low fs (λ u l. by u l (cases_lt high u)))
+  where
+    by : (u : ℕ) → low < u → ((high < u) ⊎ (u ≤ high)) → outs_occur u fs ≡ false
+    by u l (inl a) = f u (omega arith)
+    by u l (inr a) = let d : u ≡ high = omega arith in ap (λ v. outs_occur v fs) d ∙ n

@@ -9,7 +9,7 @@ ghost use Rattle.ps_rules.specs.Rules.{Applies, ElimApplies, HhApplies, OmegaApp
 ghost use Rattle.ps_rules.specs.Plans.{IsQuotient, IsInto};
 
 use super::parts::Parts;
-use super::settling::{closed_outs, closed_phase, closed_phase_twice};
+use super::settling::{closed_outs, closed_outs_twice, closed_phase, closed_phase_twice};
 use super::steps::Step;
 use ps_bool::BoolPoly;
 use ps_mono::Closing;
@@ -61,7 +61,7 @@ fn eliminated(alloc: Global, sum: PathSum, y0: u16) -> PathSum
     requires scale { negsuc 1999999997 ≤ℤ sum.k }
     ensures { ElimApplied sum y0 result }
 {
-    let gone = Closing::of(sum.n as u16 + y0);
+    let gone = Closing::within(sum.n as u16 + y0, (sum.n + sum.m) as u16);
     let PathSum {
         n,
         m,
@@ -73,8 +73,8 @@ fn eliminated(alloc: Global, sum: PathSum, y0: u16) -> PathSum
         n,
         m: m - 1,
         k: two_less(k),
-        phase: closed_phase(phase, &gone),
-        outs: closed_outs(alloc, outs, &gone),
+        phase: closed_phase(phase, gone),
+        outs: closed_outs(alloc, outs, gone),
     }
 }
 
@@ -84,8 +84,8 @@ fn quartered(alloc: Global, sum: PathSum, y0: u16, poly: &BoolPoly) -> Result<Pa
     requires scale { negsuc 1999999997 ≤ℤ sum.k }
     ensures { IfOk result (λ s. OmegaApplied sum y0 s) }
 {
-    let gone = Closing::of(sum.n as u16 + y0);
-    let extra = closed_phase(eighth_turn(alloc, poly)?, &gone);
+    let gone = Closing::within(sum.n as u16 + y0, (sum.n + sum.m) as u16);
+    let extra = closed_phase(eighth_turn(alloc, poly)?, gone);
     let PathSum {
         n,
         m,
@@ -93,14 +93,14 @@ fn quartered(alloc: Global, sum: PathSum, y0: u16, poly: &BoolPoly) -> Result<Pa
         phase,
         outs,
     } = sum;
-    let mut phase = closed_phase(phase, &gone);
+    let mut phase = closed_phase(phase, gone);
     phase.add_to(&extra)?;
     Ok(PathSum {
         n,
         m: m - 1,
         k: one_less(k),
         phase,
-        outs: closed_outs(alloc, outs, &gone),
+        outs: closed_outs(alloc, outs, gone),
     })
 }
 
@@ -130,11 +130,12 @@ fn replaced(
 {
     let first = sum.n as u16 + y0;
     let second = sum.n as u16 + y1;
-    let high = Closing::of(first.max(second));
-    let low = Closing::of(first.min(second));
+    let names = (sum.n + sum.m) as u16;
+    let high = Closing::within(first.max(second), names);
+    let low = Closing::within(first.min(second), names - 1);
     let poly = &parts.poly;
     let products = multiplied(alloc, &parts.into, second, poly)?;
-    let extra = closed_phase_twice(products, &high, &low);
+    let extra = closed_phase_twice(products, high, low);
     let PathSum {
         n,
         m,
@@ -142,7 +143,7 @@ fn replaced(
         phase,
         outs,
     } = sum;
-    let mut phase = closed_phase_twice(phase, &high, &low);
+    let mut phase = closed_phase_twice(phase, high, low);
     phase.add_to(&extra)?;
     let outs = replaced_outs(outs, second, poly)?;
     Ok(PathSum {
@@ -150,7 +151,7 @@ fn replaced(
         m: m - 2,
         k: two_less(k),
         phase,
-        outs: closed_outs(alloc, closed_outs(alloc, outs, &high), &low),
+        outs: closed_outs_twice(alloc, outs, high, low),
     })
 }
 

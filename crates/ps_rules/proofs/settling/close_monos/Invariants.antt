@@ -4,4 +4,4 @@ use Rattle.ps_rules.proofs.Mapped.{so_far}
 use Rattle.ps_rules.proofs.settling.close_monos.Given as goal
 
 abbrev pub invariant-loop-mono : goal.invariant-loop-mono
-invariant-loop-mono l = l.mono-items ≡ so_far (λ m. closed_mono l.gone m) l.fn.monos.items l.mono-index
+invariant-loop-mono l = l.mono-items ≡ so_far (λ m. closed_mono l.closing.gone m) l.fn.monos.items l.mono-index

@@ -4,4 +4,4 @@ use Rattle.ps_rules.proofs.Mapped.{so_far}
 use Rattle.ps_rules.proofs.settling.close_polys.Given as goal
 
 abbrev pub invariant-loop-poly : goal.invariant-loop-poly
-invariant-loop-poly l = l.poly-items ≡ so_far (λ f. closed_monos l.gone f) l.fn.polys.items l.poly-index
+invariant-loop-poly l = l.poly-items ≡ so_far (λ f. closed_monos l.closing.gone f) l.fn.polys.items l.poly-index

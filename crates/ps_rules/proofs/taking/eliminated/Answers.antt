@@ -7,7 +7,7 @@ use Rattle.ps_rules.proofs.taking.eliminated.Goals as goal
 
 pub invariant_of-result : goal.invariant_of-result
 invariant_of-result c =
-    let s = elim_kept c.args.sum c.args.y0 c.closed_phase.result c.closed_outs.result c.requires.applies (settled_at _ _ _ _ c.of-gone.ensures c.closed_phase.ensures) (polys_at _ _ _ _ c.of-gone.ensures c.closed_outs.ensures) in
+    let s = elim_kept c.args.sum c.args.y0 c.closed_phase.result c.closed_outs.result c.requires.applies (settled_at _ _ _ _ c.within-gone.ensures.gone c.closed_phase.ensures) (polys_at _ _ _ _ c.within-gone.ensures.gone c.closed_outs.ensures) in
     let f : SFits w32 c.two_less.result = search rules in
     let g : SFits w32 c.args.sum.k = search rules in
     record {
@@ -24,4 +24,4 @@ pub returns : goal.returns
 returns c =
     let f : SFits w32 c.two_less.result = search rules in
     let g : SFits w32 c.args.sum.k = search rules in
-    elim_taken c.args.sum _ c.args.y0 c.requires.applies refl refl (ap (λ x. x +ℤ pos 2) (to_z-of_z w32 c.two_less.result f) ∙ c.two_less.ensures ∙ to_z-of_z w32 c.args.sum.k g) (settled_at _ _ _ _ c.of-gone.ensures c.closed_phase.ensures) (polys_at _ _ _ _ c.of-gone.ensures c.closed_outs.ensures)
+    elim_taken c.args.sum _ c.args.y0 c.requires.applies refl refl (ap (λ x. x +ℤ pos 2) (to_z-of_z w32 c.two_less.result f) ∙ c.two_less.ensures ∙ to_z-of_z w32 c.args.sum.k g) (settled_at _ _ _ _ c.within-gone.ensures.gone c.closed_phase.ensures) (polys_at _ _ _ _ c.within-gone.ensures.gone c.closed_outs.ensures)
