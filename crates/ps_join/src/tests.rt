@@ -119,6 +119,36 @@ fn joins(rt: HostRuntime) -> Result<(), Fail> {
     Ok(())
 }
 
+// The sum of a prim behind the first, on two qubits.
+fn prim_behind(
+    rt: &impl Abort,
+    alloc: Global,
+    first: PathSum,
+    prim: &Prim,
+) -> Result<PathSum, JoinFault>
+    requires { IsWithin 2 prim.now }
+{
+    assert!(rt; first.n == 2 && first.outs.polys().len() == 2);
+    assert!(rt; first.k > -1000 && first.k < 1000);
+    match join_prim(alloc, Running::of(alloc, first), prim) {
+        Ok(sum) => Ok(sum.settled()?),
+        Err(OntoFault::Passed { passed, .. }) => Err(JoinFault::Passed(passed)),
+        Err(OntoFault::Memory) => Err(JoinFault::Memory),
+    }
+}
+
+// A controlled not, a quarter turn, and a controlled not back.
+#[test]
+fn plain_gates(rt: HostRuntime) -> Result<(), Fail> {
+    let alloc = rt.alloc();
+    let sum = prim_behind(&rt, alloc, identity(alloc, 2)?, &Prim::Cx { c: 1, t: 0 })?;
+    let sum = prim_behind(&rt, alloc, sum, &turned(0, 1 << 29, 0))?;
+    assert!(rt; is_text(alloc, &sum, "k=0 m=0 P=1/4*x0+1/4*x1+1/2*x0.x1 f=x0+x1,x1")?);
+    let sum = prim_behind(&rt, alloc, sum, &Prim::Cx { c: 1, t: 0 })?;
+    assert!(rt; is_text(alloc, &sum, "k=0 m=0 P=1/4*x0+1/4*x1+1/2*x0.x1 f=x0,x1")?);
+    Ok(())
+}
+
 // The sum of a controlled not from each other qubit to the last of 64.
 fn parity(rt: &impl Abort, alloc: Global) -> Result<PathSum, JoinFault> {
     let mut sum = identity(alloc, 64)?;
