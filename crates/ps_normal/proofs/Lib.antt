@@ -12,3 +12,4 @@ pub mod Settling
 pub mod Derived
 pub mod Tables
 pub mod Plains
+pub mod Suspecting

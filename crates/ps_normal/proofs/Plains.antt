@@ -1,5 +1,6 @@
 -- Behind an irreducible sum a gate without path variables leaves nothing to reduce: the terms with a variable that stands in no output stay as they are.
-use Rattle.std.proofs.Common.{◌≡◌, ℕ, ◌+◌, ◌*◌, ◌%◌, ◌≤◌, ◌<◌, refl, ap, ap₂, sym, ◌∙◌, subst, arith, Bool, true, false, cond, nat_eq, ◌||◌, List, [], ◌∷◌, ◌++◌, length, append-nil, ◌⊎◌}
+use Rattle.std.proofs.Common.{◌≡◌, ℕ, ◌+◌, ◌*◌, ◌%◌, ◌≤◌, ◌<◌, refl, ap, ap₂, sym, ◌∙◌, subst, arith, Bool, true, false, cond, nat_eq, ◌||◌, List, [], ◌∷◌, ◌++◌, length, append-nil, ◌⊎◌, inl, inr}
+use Rattle.std.proofs.lemmas.Bool.{cases_lt}
 use Rattle.std.specs.Cmp.Lexicographic.{pointwise}
 use Rattle.ps_ring.specs.Truths.{Truths, bit}
 use Rattle.ps_ring.specs.Readings.{Assignment, taken}
@@ -33,14 +34,15 @@ use Rattle.ps_sum.proofs.Uniqueness.{taken_length, phase_read, bool_read}
 use Rattle.ps_rules.specs.declared.steps.Step.{Step}
 use Rattle.ps_rules.specs.declared.steps.Step.TheVariants.{Elim, Hh, Omega}
 use Rattle.ps_rules.specs.Terms.{EachWith, IsHalf, both}
-use Rattle.ps_rules.specs.Rules.{IsInner, Applies, IsIrreducible}
+use Rattle.ps_rules.specs.Rules.{IsInner, Applies, IsIrreducible, first_of}
+use Rattle.ps_rules.specs.Sights.{NoneAt}
 use Rattle.ps_rules.proofs.Splits.{holds_without}
 use Rattle.ps_rules.proofs.Seeing.{each_none}
-use Rattle.ps_rules.proofs.Firsts.{both_first, alone_stands}
+use Rattle.ps_rules.proofs.Firsts.{both_first, both_second, alone_stands, occurs_coefficient}
 use Rattle.ps_join.specs.Joining.{IsLeafOf, IsJoinOf}
 use Rattle.ps_normal.specs.Keeping.{IsPlainPrim}
 
-off : {b : Bool} → b ≡ true → b ≡ false → ⊥
+pub off : {b : Bool} → b ≡ true → b ≡ false → ⊥
 off e f = cc
 
 -- ---- what the terms with a variable are worth
@@ -75,7 +77,7 @@ with_gives v ts a = omega (arith, split_value v ts a, split_value v ts (with_val
 same_change : (x y x0 y0 p q : ℕ) → x ≡ x0 + p → y ≡ y0 + q → (x + y0) % 4294967296 ≡ (y + x0) % 4294967296 → p % 4294967296 ≡ q % 4294967296
 same_change x y x0 y0 p q e f h = omega (arith, e, f, h)
 
-same_with : (v : ℕ) (f g : List Term) → IsPhasePoly f → IsPhasePoly g → ((a : Assignment) → (phase_value f a + phase_value g (with_value a v false)) % 4294967296 ≡ (phase_value g a + phase_value f (with_value a v false)) % 4294967296)
+pub same_with : (v : ℕ) (f g : List Term) → IsPhasePoly f → IsPhasePoly g → ((a : Assignment) → (phase_value f a + phase_value g (with_value a v false)) % 4294967296 ≡ (phase_value g a + phase_value f (with_value a v false)) % 4294967296)
     → terms_with v f ≡ terms_with v g
 same_with v f g ff fg h = same_terms (terms_with v f) (terms_with v g) (selected_form true v f ff) (selected_form true v g fg)
     (λ a. same_change (phase_value f a) (phase_value g a) (phase_value f (with_value a v false)) (phase_value g (with_value a v false)) _ _ (with_gives v f a) (with_gives v g a) (h a))
@@ -130,37 +132,66 @@ record Quiet (S T : PathSum) : Type 0 where
   outs_free : (v : ℕ) → outs_occur v T.outs ≡ false → outs_occur v S.outs ≡ false
   terms_same : (v : ℕ) → outs_occur v S.outs ≡ false → terms_with v T.phase ≡ terms_with v S.phase
 
-inner_before : (S T : PathSum) (y : ℕ) → Quiet S T → IsInner T y → IsInner S y
-inner_before S T y q i = record { inside = subst (λ k. y < k) q.m_is i.inside; silent = q.outs_free (S.n + y) (subst (λ k. outs_occur (k + y) T.outs ≡ false) q.n_is i.silent) }
+pub inner_of : (T : PathSum) (s : Step) → Applies T s → IsInner T (first_of s)
+inner_of T (Elim y0) a = a.inner
+inner_of T (Hh y0 y1) a = a.inner
+inner_of T (Omega y0) a = a.inner
 
-applies_before : (S T : PathSum) (s : Step) → Quiet S T → Applies T s → Applies S s
-applies_before S T (Elim y0) q a =
-    let i = inner_before S T y0 q a.inner in
+-- path variable y of T stands in no output of S, and in the same terms of both
+pub record QuietAt (S T : PathSum) (y : ℕ) : Type 0 where
+  pub n_is : T.n ≡ S.n
+  pub inside : y < S.m
+  pub silent : outs_occur (S.n + y) S.outs ≡ false
+  pub terms_same : terms_with (S.n + y) T.phase ≡ terms_with (S.n + y) S.phase
+
+-- what stands in the phase is a variable of the sum
+second_inside : (S : PathSum) (v y1 : ℕ) → coefficient (both v (S.n + y1)) S.phase ≡ 2147483648 → y1 < S.m
+second_inside S v y1 e = by (cases_lt y1 S.m)
+  where
+    stands_there : phase_occurs (S.n + y1) S.phase ≡ true
+    stands_there = occurs_coefficient (S.n + y1) (both v (S.n + y1)) S.phase (both_second v (S.n + y1)) (λ k. omega (arith, e, k))
+
+    by : ((y1 < S.m) ⊎ (S.m ≤ y1)) → y1 < S.m
+    by (inl l) = l
+    by (inr l) = absurd (off stands_there (S.phase_below (S.n + y1) (omega (arith, l))))
+
+inner_at : (S T : PathSum) (y : ℕ) → QuietAt S T y → IsInner S y
+inner_at S T y q = record { inside = q.inside; silent = q.silent }
+
+applies_at : (S T : PathSum) (s : Step) → QuietAt S T (first_of s) → Applies T s → Applies S s
+applies_at S T (Elim y0) q a = record {
+  inner = inner_at S T y0 q;
+  absent = none_occurs (S.n + y0) S.phase (each_same (S.n + y0) (λ t. ⊥) T.phase S.phase q.terms_same (each_none (S.n + y0) (λ t. ⊥) T.phase (subst (λ k. phase_occurs (k + y0) T.phase ≡ false) q.n_is a.absent)));
+}
+applies_at S T (Hh y0 y1) q a =
+    let product : coefficient (both (S.n + y0) (S.n + y1)) S.phase ≡ 2147483648 =
+        sym (coefficient_same (S.n + y0) (both (S.n + y0) (S.n + y1)) T.phase S.phase (both_first (S.n + y0) (S.n + y1)) q.terms_same)
+        ∙ subst (λ k. coefficient (both (k + y0) (k + y1)) T.phase ≡ 2147483648) q.n_is a.product
+    in
     record {
-      inner = i;
-      absent = none_occurs (S.n + y0) S.phase (each_same (S.n + y0) (λ t. ⊥) T.phase S.phase (q.terms_same (S.n + y0) i.silent) (each_none (S.n + y0) (λ t. ⊥) T.phase (subst (λ k. phase_occurs (k + y0) T.phase ≡ false) q.n_is a.absent)));
-    }
-applies_before S T (Hh y0 y1) q a =
-    let i = inner_before S T y0 q a.inner in
-    let e = q.terms_same (S.n + y0) i.silent in
-    record {
-      inner = i;
-      second = subst (λ k. y1 < k) q.m_is a.second;
+      inner = inner_at S T y0 q;
+      second = second_inside S (S.n + y0) y1 product;
       apart = a.apart;
-      halves = each_same (S.n + y0) IsHalf T.phase S.phase e (subst (λ k. EachWith (k + y0) IsHalf T.phase) q.n_is a.halves);
-      product = sym (coefficient_same (S.n + y0) (both (S.n + y0) (S.n + y1)) T.phase S.phase (both_first (S.n + y0) (S.n + y1)) e) ∙ subst (λ k. coefficient (both (k + y0) (k + y1)) T.phase ≡ 2147483648) q.n_is a.product;
-      lone = each_same (S.n + y0) (λ t. stands (S.n + y1) t.mono ≡ true → t.mono ≡ both (S.n + y0) (S.n + y1)) T.phase S.phase e
+      halves = each_same (S.n + y0) IsHalf T.phase S.phase q.terms_same (subst (λ k. EachWith (k + y0) IsHalf T.phase) q.n_is a.halves);
+      product = product;
+      lone = each_same (S.n + y0) (λ t. stands (S.n + y1) t.mono ≡ true → t.mono ≡ both (S.n + y0) (S.n + y1)) T.phase S.phase q.terms_same
           (subst (λ k. EachWith (k + y0) (λ t. stands (k + y1) t.mono ≡ true → t.mono ≡ both (k + y0) (k + y1)) T.phase) q.n_is a.lone);
     }
-applies_before S T (Omega y0) q a =
-    let i = inner_before S T y0 q a.inner in
-    let e = q.terms_same (S.n + y0) i.silent in
-    record {
-      inner = i;
-      quarter = subst (λ c. (c ≡ 1073741824) ⊎ (c ≡ 3221225472)) (coefficient_same (S.n + y0) ((S.n + y0) ∷ []) T.phase S.phase (alone_stands (S.n + y0)) e)
-          (subst (λ k. (coefficient ((k + y0) ∷ []) T.phase ≡ 1073741824) ⊎ (coefficient ((k + y0) ∷ []) T.phase ≡ 3221225472)) q.n_is a.quarter);
-      halves = each_same (S.n + y0) (λ t. (t.mono ≡ (S.n + y0) ∷ [] → ⊥) → IsHalf t) T.phase S.phase e (subst (λ k. EachWith (k + y0) (λ t. (t.mono ≡ (k + y0) ∷ [] → ⊥) → IsHalf t) T.phase) q.n_is a.halves);
-    }
+applies_at S T (Omega y0) q a = record {
+  inner = inner_at S T y0 q;
+  quarter = subst (λ c. (c ≡ 1073741824) ⊎ (c ≡ 3221225472)) (coefficient_same (S.n + y0) ((S.n + y0) ∷ []) T.phase S.phase (alone_stands (S.n + y0)) q.terms_same)
+      (subst (λ k. (coefficient ((k + y0) ∷ []) T.phase ≡ 1073741824) ⊎ (coefficient ((k + y0) ∷ []) T.phase ≡ 3221225472)) q.n_is a.quarter);
+  halves = each_same (S.n + y0) (λ t. (t.mono ≡ (S.n + y0) ∷ [] → ⊥) → IsHalf t) T.phase S.phase q.terms_same (subst (λ k. EachWith (k + y0) (λ t. (t.mono ≡ (k + y0) ∷ [] → ⊥) → IsHalf t) T.phase) q.n_is a.halves);
+}
+
+pub quiet_none : (S T : PathSum) (y : ℕ) → IsIrreducible S → QuietAt S T y → NoneAt T y
+quiet_none S T y i q t e a = i t (applies_at S T t (subst (QuietAt S T) (sym e) q) a)
+
+applies_before : (S T : PathSum) (s : Step) → Quiet S T → Applies T s → Applies S s
+applies_before S T s q a =
+    let inner : IsInner T (first_of s) = inner_of T s a in
+    let silent : outs_occur (S.n + first_of s) S.outs ≡ false = q.outs_free (S.n + first_of s) (subst (λ k. outs_occur (k + first_of s) T.outs ≡ false) q.n_is inner.silent) in
+    applies_at S T s (record { n_is = q.n_is; inside = subst (λ k. first_of s < k) q.m_is inner.inside; silent = silent; terms_same = q.terms_same (S.n + first_of s) silent }) a
 
 quiet_irreducible : (S T : PathSum) → Quiet S T → IsIrreducible S → IsIrreducible T
 quiet_irreducible S T q i s a = i s (applies_before S T s q a)
@@ -211,7 +242,7 @@ without_value v (m ∷ f) a = by (stands v m) refl (without_value v f a)
     by true s r = ap (λ (b : Bool). differ b (bool_value f (with_value a v false))) (holds_without m v a s) ∙ differ_off _ ∙ r
     by false s r = ap₂ (λ (x y : Bool). differ x y) (holds_apart m v a false s) r
 
-unread : (v : ℕ) (f : List (List ℕ)) → IsPoly f → ((a : Assignment) → bool_value f (with_value a v false) ≡ bool_value f a) → occurs v f ≡ false
+pub unread : (v : ℕ) (f : List (List ℕ)) → IsPoly f → ((a : Assignment) → bool_value f (with_value a v false) ≡ bool_value f a) → occurs v f ≡ false
 unread v f p h =
     let e : f ≡ monos_without v f = one_form f (monos_without v f) p (record { in_order = without_ascending v f p.in_order; sets = without_each _ v f p.sets }) (λ a. sym (h a) ∙ without_value v f a) in
     ap (occurs v) e ∙ without_free v f
@@ -227,14 +258,14 @@ outs_unread v (f ∷ fs) p h = ap₂ (λ (x y : Bool). x || y) (unread v f p.0 (
     tails : {a b : Bool} {xs ys : List Bool} → a ∷ xs ≡ b ∷ ys → xs ≡ ys
     tails k = cc
 
-outs_same : (v : ℕ) (fs : List (List (List ℕ))) (a : Assignment) (b : Bool) → outs_occur v fs ≡ false → values fs (with_value a v b) ≡ values fs a
+pub outs_same : (v : ℕ) (fs : List (List (List ℕ))) (a : Assignment) (b : Bool) → outs_occur v fs ≡ false → values fs (with_value a v b) ≡ values fs a
 unfolding values outs_occur
 outs_same v [] a b h = refl
 outs_same v (f ∷ fs) a b h =
     let k = neither (occurs v f) (outs_occur v fs) h in
     ap₂ (λ (x : Bool) (xs : Truths). x ∷ xs) (bool_value-with_value f v a b k.0) (outs_same v fs a b k.1)
 
-outs_read : (n m : ℕ) (fs : List (List (List ℕ))) → ((v : ℕ) → n + m ≤ v → outs_occur v fs ≡ false) → (a : Assignment) → values fs a ≡ values fs (bit (taken 0 n a ++ taken n m a))
+pub outs_read : (n m : ℕ) (fs : List (List (List ℕ))) → ((v : ℕ) → n + m ≤ v → outs_occur v fs ≡ false) → (a : Assignment) → values fs a ≡ values fs (bit (taken 0 n a ++ taken n m a))
 unfolding values outs_occur
 outs_read n m [] h a = refl
 outs_read n m (f ∷ fs) h a = ap₂ (λ (x : Bool) (xs : Truths). x ∷ xs) (bool_read n m f (λ v l. (neither _ _ (h v l)).0) a) (outs_read n m fs (λ v l. (neither _ _ (h v l)).1) a)
@@ -271,7 +302,7 @@ plain_behind n f P S L T en w p j = record {
     below : (v : ℕ) → S.n + S.m ≤ v → T.n + T.m ≤ v
     below v l = omega (arith, l, m_is, j.n_is)
 
-moved_phase : (x y x0 y0 p p0 : ℕ) → x % 4294967296 ≡ (y + p) % 4294967296 → x0 % 4294967296 ≡ (y0 + p0) % 4294967296 → p0 ≡ p → (x + y0) % 4294967296 ≡ (y + x0) % 4294967296
+pub moved_phase : (x y x0 y0 p p0 : ℕ) → x % 4294967296 ≡ (y + p) % 4294967296 → x0 % 4294967296 ≡ (y0 + p0) % 4294967296 → p0 ≡ p → (x + y0) % 4294967296 ≡ (y + x0) % 4294967296
 moved_phase x y x0 y0 p p0 e f h = omega (arith, e, f, h)
 
 behind_quiet : (S T : PathSum) (f back : Truths → Truths) (P : Truths → ℕ) → ((z : Truths) → length z ≡ length S.outs → back (f z) ≡ z) → Behind S T f P → Quiet S T
@@ -294,7 +325,7 @@ plain_m n (U theta phi lambda q) L p l =
     w.values_are.m_is
 plain_m n (Cx c t) L p l = l.values_are.m_is
 
-no_variable : (S : PathSum) (s : Step) → S.m ≡ 0 → Applies S s → ⊥
+pub no_variable : (S : PathSum) (s : Step) → S.m ≡ 0 → Applies S s → ⊥
 no_variable S (Elim y0) e a = let h = a.inner.inside in omega (arith, h, e)
 no_variable S (Hh y0 y1) e a = let h = a.inner.inside in omega (arith, h, e)
 no_variable S (Omega y0) e a = let h = a.inner.inside in omega (arith, h, e)

@@ -7,3 +7,4 @@ pub mod Comparing
 pub mod Places
 pub mod Founds
 pub mod Deriving
+pub mod Suspecting

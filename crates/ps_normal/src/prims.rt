@@ -1,21 +1,26 @@
 //! The sum of one prim, and two sums one after the other, reduced.
 
-ghost use Rattle.std.specs.Prelude.{◌≡◌, ℕ, ◌<◌, ◌≤◌, ◌+◌, ◌↔◌, List, IfOk, IsTrue};
+ghost use Rattle.std.specs.Prelude.{◌≡◌, ℕ, ◌<◌, ◌≤◌, ◌+◌, ◌*◌, ◌↔◌, List, IfOk, IfSome, IsTrue, pos, negsuc, ◌≤ℤ◌, ◌-ℤ◌};
 ghost use Rattle.ps_prim.specs.declared.prims.Primitive.{Primitive as Prim};
 ghost use Rattle.ps_prim.specs.Maps.{IsWithin};
 ghost use Rattle.ps_sum.specs.declared.sums.PathSum.{PathSum};
+ghost use Rattle.ps_rules.specs.declared.steps.Move.{Move};
 ghost use Rattle.ps_rules.specs.declared.steps.Move.TheVariants.{Leaf, Join};
+ghost use Rattle.ps_rules.specs.Rules.{IsIrreducible};
 ghost use Rattle.ps_join.specs.Joining.{IsLeafOf, IsJoinOf, JoinFits};
+ghost use Rattle.ps_join.specs.OntoFaults.{IsOntoFault};
 ghost use Rattle.ps_reach.specs.Fillings.{Leaves, Joins};
 ghost use Rattle.ps_normal.specs.Ends.{IsEnded, HasRisen};
 ghost use Rattle.ps_normal.specs.Pieces.{PartIs, PartRose, Usable, UsablePart, Joinable};
 ghost use Rattle.ps_normal.specs.Keeping.{IsPlainPrim, IsReducedPart, IsReducedLeaf};
+ghost use Rattle.ps_normal.specs.Suspecting.{NoneBeside, AreSuspects};
 
 use super::evidences::{evidence, push_moves, shared_evidence};
 use super::parts::{Ended, Part, Places};
-use super::reduce::reduce;
+use super::reduce::{reduce, reduce_among};
 use ps_io::Stop;
-use ps_join::{Gate, OntoFault, Running, join_gate, leaf};
+use ps_join::{Change, Gate, OntoFault, Running, join_gate, leaf};
+use ps_mono::Mono;
 use ps_prim::Prim;
 use ps_rules::{Move, Step};
 use ps_sum::PathSum;
@@ -40,7 +45,7 @@ pub fn ended_part(
     match ended {
         Ended::Normal(sum) => {
             push_moves(moves, first, steps)?;
-            Ok(Part::Sum(Running::of(alloc, sum)))
+            Ok(Part::Sum(sum))
         }
         Ended::Over { passed, sum } => {
             push_moves(moves, first, steps)?;
@@ -89,32 +94,95 @@ pub fn is_plain(prim: &Prim) -> bool
     }
 }
 
-/// The gate's sum behind the first, which is given away, reduced.
+// The variables that a step may take away once the gate's sum stands behind the first, which no step
+// reduces; `None` where that isn't known.
+fn suspects(first: &Running, gate: &Gate) -> Option<Mono>
+    requires ready { Joinable first.now gate.now.sum.value }
+    ensures { IfSome result (λ m. AreSuspects first.now gate.now.sum.value m) }
+{
+    match gate.change() {
+        Change::Path { q, .. } => {
+            if gate.sum.m == 1 {
+                Some(first.variables(q as u32))
+            } else {
+                None
+            }
+        }
+        Change::Stay | Change::Flip { .. } => {
+            if gate.sum.m == 0 {
+                Some(Mono::one())
+            } else {
+                None
+            }
+        }
+        Change::More => None,
+    }
+}
+
+// The joined sum, reduced.
+fn reduce_joined<S: Stop>(
+    alloc: Global,
+    sum: Running,
+    among: Option<Mono>,
+    steps: &mut Vec<Step>,
+    stop: &mut S,
+) -> Result<Ended, AllocError>
+    requires floor { negsuc 1999999999 ≤ℤ (sum.k -ℤ pos (2 * sum.m)) }
+    requires others { IfSome among (λ m. NoneBeside sum m) }
+    ensures ended { IfOk result (λ e. IsEnded sum steps.new.items e) }
+    ensures stopped { IfOk result (λ e. HasRisen (S.yeses stop.old) (S.yeses stop.new) e) }
+    ensures never_falls { S.yeses stop.old ≤ S.yeses stop.new }
+{
+    match among {
+        Some(among) => reduce_among(alloc, sum, &among, steps, stop),
+        None => reduce(alloc, sum.settled()?, steps, stop),
+    }
+}
+
+// The evidence that the join passes a limit.
+fn join_evidence(
+    alloc: Global,
+    places: Places,
+    gate: &Gate,
+    fault: OntoFault,
+) -> Result<Part, AllocError>
+    ensures part { IfOk result (λ p. (S : PathSum) (ms : List Move) → IsOntoFault S gate.now.sum.value fault → PartIs (Joins places.from places.middle places.to S gate.now.sum.value ms) ms p) }
+    ensures usable { IfOk result (λ p. (n count : ℕ) → UsablePart n count p) }
+    ensures stopped { IfOk result (λ p. (old new : ℕ) → PartRose old new p) }
+{
+    match fault {
+        OntoFault::Passed { passed, first } => {
+            let first = Arc::new(alloc, first)?;
+            let second = Arc::try_clone(&gate.sum)?;
+            Ok(Part::Over(shared_evidence(passed, places, first, Some(second))))
+        }
+        OntoFault::Memory => Err(AllocError),
+    }
+}
+
+/// The gate's sum behind the first, which is given away, reduced. No step reduces the first.
 pub fn join_part<S: Stop>(
     alloc: Global,
     places: Places,
-    first: PathSum,
+    first: Running,
     gate: &Gate,
     moves: &mut Vec<Move>,
     steps: &mut Vec<Step>,
     stop: &mut S,
 ) -> Result<Part, AllocError>
     requires ready { Joinable first gate.now.sum.value }
+    requires still { IsIrreducible first }
     ensures part { IfOk result (λ p. PartIs (Joins places.from places.middle places.to first gate.now.sum.value moves.old.items) moves.new.items p) }
     ensures usable { IfOk result (λ p. (n a b : ℕ) → Usable n a first → Usable n b gate.now.sum.value → UsablePart n (a + b) p) }
     ensures stopped { IfOk result (λ p. PartRose (S.yeses stop.old) (S.yeses stop.new) p) }
     ensures never_falls { S.yeses stop.old ≤ S.yeses stop.new }
 {
+    let among = suspects(&first, gate);
     match join_gate(alloc, first, gate) {
         Ok(sum) => {
-            let ended = reduce(alloc, sum, steps, stop)?;
+            let ended = reduce_joined(alloc, sum, among, steps, stop)?;
             ended_part(alloc, places, Move::Join, ended, moves, steps)
         }
-        Err(OntoFault::Passed { passed, first }) => {
-            let first = Arc::new(alloc, first)?;
-            let second = Arc::try_clone(&gate.sum)?;
-            Ok(Part::Over(shared_evidence(passed, places, first, Some(second))))
-        }
-        Err(OntoFault::Memory) => Err(AllocError),
+        Err(fault) => join_evidence(alloc, places, gate, fault),
     }
 }

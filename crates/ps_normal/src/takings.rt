@@ -48,15 +48,7 @@ fn take_kept<S: Stop>(
         middle: place,
         to: place + 1,
     };
-    join_part(
-        alloc,
-        places,
-        sum.settled()?,
-        &kept.gate,
-        moves,
-        steps,
-        stop,
-    )
+    join_part(alloc, places, sum, &kept.gate, moves, steps, stop)
 }
 
 // The prim at a place, whose sum has no path variable, behind the sum of those before it. No step applies
