@@ -165,8 +165,8 @@ applies_at S T (Elim y0) q a = record {
 }
 applies_at S T (Hh y0 y1) q a =
     let product : coefficient (both (S.n + y0) (S.n + y1)) S.phase ≡ 2147483648 =
-        sym (coefficient_same (S.n + y0) (both (S.n + y0) (S.n + y1)) T.phase S.phase (both_first (S.n + y0) (S.n + y1)) q.terms_same)
-        ∙ subst (λ k. coefficient (both (k + y0) (k + y1)) T.phase ≡ 2147483648) q.n_is a.product
+    sym (coefficient_same (S.n + y0) (both (S.n + y0) (S.n + y1)) T.phase S.phase (both_first (S.n + y0) (S.n + y1)) q.terms_same)
+    ∙ subst (λ k. coefficient (both (k + y0) (k + y1)) T.phase ≡ 2147483648) q.n_is a.product
     in
     record {
       inner = inner_at S T y0 q;

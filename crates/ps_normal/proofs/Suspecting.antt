@@ -1,5 +1,6 @@
 -- Behind a sum that no step reduces, a gate that changes one output leaves few variables at which a step may apply: those of the output that it puts away.
-use Rattle.std.proofs.Common.{◌≡◌, ◌≢◌, ℕ, zero, suc, ◌+◌, ◌%◌, ◌≤◌, ◌<◌, refl, ap, ap₂, sym, ◌∙◌, subst, arith, Bool, true, false, cond, nat_eq, ◌||◌, List, [], ◌∷◌, ◌++◌, length, get_or, get_or-append-add, ◌⊎◌, inl, inr}
+use Rattle.std.proofs.Common.{◌≡◌, ◌≢◌, ℕ, zero, suc, ◌+◌, ◌%◌, ◌≤◌, ◌<◌, refl, ap, ap₂, sym, ◌∙◌, subst, arith, Bool, true, false, cond, nat_eq, ◌||◌, List, [], ◌∷◌, ◌++◌, length, get_or, get_or-append-add, ◌⊎◌, inl, inr, Option, Some, None}
+use Rattle.std.specs.Prelude.{IfSome}
 use Rattle.std.proofs.Math.ListN.{get_or-append}
 use Rattle.std.proofs.lemmas.Bool.{cases_lt, cases_eq}
 use Rattle.ps_ring.specs.Truths.{Truths, bit}
@@ -26,7 +27,10 @@ use Rattle.ps_join.specs.declared.changes.Change.TheVariants.{Stay, Path, Flip, 
 use Rattle.ps_join.specs.Changing.{IsChange, OneIs}
 use Rattle.ps_join.specs.Joining.{IsJoinOf}
 use Rattle.ps_join.proofs.Outputs.{get_value, get_free, own_stands}
-use Rattle.ps_normal.specs.Suspecting.{NoneBeside}
+use Rattle.ps_reach.specs.Reductions.{normal, ReducesTo}
+use Rattle.ps_normal.proofs.Floors.{reached_start}
+use Rattle.ps_normal.specs.Pieces.{Joinable}
+use Rattle.ps_normal.specs.Suspecting.{NoneBeside, AreSuspects}
 use Rattle.ps_normal.proofs.Plains.{QuietAt, quiet_none, off, inner_of, same_with, unread, outs_same, outs_read, moved_phase}
 
 -- ---- the join by its values at an assignment of all variables
@@ -196,12 +200,46 @@ old_name (Path q p) S L T m y j w en c s i = by (cases_lt y S.m)
 old_name (Flip q) S L T m y j w en c s i = omega (arith, i.inside, j.m_is, s)
 old_name More S L T m y j w en c s i = absurd s
 
-pub suspect_none : (c : Change) (S L T : PathSum) (m : List ℕ) → IsIrreducible S → IsJoinOf S L T → length S.outs ≡ S.n → length L.outs ≡ S.n → IsChange L.n L.outs c → Suspects c S L m → NoneBeside T m
+suspect_none : (c : Change) (S L T : PathSum) (m : List ℕ) → IsIrreducible S → IsJoinOf S L T → length S.outs ≡ S.n → length L.outs ≡ S.n → IsChange L.n L.outs c → Suspects c S L m → NoneBeside T m
 suspect_none c S L T m i j w wl ch s y free t e a =
     let at : JoinedAt S L T = joined_at S L T j in
     let inner : IsInner T y = subst (IsInner T) e (inner_of T t a) in
     let inside : y < S.m = old_name c S L T m y at w j.second_n_is ch s inner in
     let silent : outs_occur (S.n + y) S.outs ≡ false =
-        subst (λ k. outs_occur (k + y) S.outs ≡ false) at.n_is (each_silent S L T (T.n + y) at (w ∙ sym wl) inner.silent (tells c S L m (T.n + y) ch s free))
+    subst (λ k. outs_occur (k + y) S.outs ≡ false) at.n_is (each_silent S L T (T.n + y) at (w ∙ sym wl) inner.silent (tells c S L m (T.n + y) ch s free))
     in
     quiet_none S T y i (record { n_is = at.n_is; inside = inside; silent = silent; terms_same = terms_stay S L T (S.n + y) at (omega (arith, inside)) silent }) t e a
+
+-- ---- as the gate tells it
+are_suspects : (c d : Change) (S L : PathSum) (m : List ℕ) → Joinable S L → IsChange L.n L.outs c → c ≡ d → Suspects d S L m → AreSuspects S L m
+are_suspects c d S L m r ch e s i T j = suspect_none d S L T m i j (r.first.wide ∙ sym r.first.n_is) (r.second.wide ∙ sym r.first.n_is) (subst (IsChange L.n L.outs) e ch) s
+
+pub path_place : (S L : PathSum) (c : Change) (q y : ℕ) → Joinable S L → IsChange L.n L.outs c → c ≡ Path q y → q < length S.outs
+path_place S L c q y r ch e = omega (arith, (ch.path q y e).0.0, r.first.wide, r.second.wide)
+
+pub path_suspects : (S L D : PathSum) (c : Change) (q y : ℕ) (m : List ℕ) → Joinable S L → IsChange L.n L.outs c → c ≡ Path q y → D ≡ L → D.m ≡ 1 → ((v : ℕ) → stands v m ≡ occurs v (get_or S.outs q [])) → AreSuspects S L m
+path_suspects S L D c q y m r ch e d h s = are_suspects c (Path q y) S L m r ch e (sym (ap (λ (R : PathSum). R.m) d) ∙ h, s)
+
+pub stay_suspects : (S L D : PathSum) (c : Change) (m : List ℕ) → Joinable S L → IsChange L.n L.outs c → c ≡ Stay → D ≡ L → D.m ≡ 0 → AreSuspects S L m
+stay_suspects S L D c m r ch e d h = are_suspects c Stay S L m r ch e (sym (ap (λ (R : PathSum). R.m) d) ∙ h)
+
+pub flip_suspects : (S L D : PathSum) (c : Change) (q : ℕ) (m : List ℕ) → Joinable S L → IsChange L.n L.outs c → c ≡ Flip q → D ≡ L → D.m ≡ 0 → AreSuspects S L m
+flip_suspects S L D c q m r ch e d h = are_suspects c (Flip q) S L m r ch e (sym (ap (λ (R : PathSum). R.m) d) ∙ h)
+
+pub beside_joined : (S L T : PathSum) (o : Option (List ℕ)) → IsIrreducible S → IsJoinOf S L T → IfSome o (λ m. AreSuspects S L m) → IfSome o (λ m. NoneBeside T m)
+beside_joined S L T None i j h = tt
+beside_joined S L T (Some m) i j h = h i T j
+
+-- ---- where each of them stands in an output
+spoken_still : (S : PathSum) (m : List ℕ) → NoneBeside S m → ((v : ℕ) → S.n ≤ v → stands v m ≡ true → outs_occur v S.outs ≡ true) → IsIrreducible S
+spoken_still S m h spoken s a = by (stands (S.n + first_of s) m) refl
+  where
+    by : (b : Bool) → stands (S.n + first_of s) m ≡ b → ⊥
+    by true e = off (spoken (S.n + first_of s) (omega arith) e) (inner_of S s a).silent
+    by false e = h (first_of s) e s refl a
+
+pub spoken_ended : (S : PathSum) (outs : List (List (List ℕ))) (n : ℕ) (ss : List Step) (m : List ℕ) → outs ≡ S.outs → n ≡ S.n → ss ≡ [] → NoneBeside S m → ((v : ℕ) → n ≤ v → stands v m ≡ true → outs_occur v outs ≡ true) → ReducesTo S ss (normal S)
+spoken_ended S outs n ss m o e z h spoken = record {
+  taken = reached_start S ss z;
+  ended = spoken_still S m h (λ v l t. ap (outs_occur v) (sym o) ∙ spoken v (omega (arith, e, l)) t);
+}

@@ -100,22 +100,12 @@ fn suspects(first: &Running, gate: &Gate) -> Option<Mono>
     requires ready { Joinable first.now gate.now.sum.value }
     ensures { IfSome result (λ m. AreSuspects first.now gate.now.sum.value m) }
 {
+    let own = gate.sum.m;
     match gate.change() {
-        Change::Path { q, .. } => {
-            if gate.sum.m == 1 {
-                Some(first.variables(q as u32))
-            } else {
-                None
-            }
-        }
-        Change::Stay | Change::Flip { .. } => {
-            if gate.sum.m == 0 {
-                Some(Mono::one())
-            } else {
-                None
-            }
-        }
-        Change::More => None,
+        Change::Path { q, .. } if own == 1 => Some(first.variables(q as u32)),
+        Change::Stay if own == 0 => Some(Mono::one()),
+        Change::Flip { .. } if own == 0 => Some(Mono::one()),
+        _ => None,
     }
 }
 
