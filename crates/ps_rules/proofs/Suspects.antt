@@ -64,3 +64,18 @@ Spoken outs n u = n ≤ u → outs_occur u outs ≡ true
 
 pub not_spoken : (outs : List (List (List ℕ))) (n i w : ℕ) (m : List ℕ) → i < length m → w ≡ get_or m i 0 → (Spoken outs n w → ⊥) → ((v : ℕ) → n ≤ v → stands v m ≡ true → outs_occur v outs ≡ true) → ⊥
 not_spoken outs n i w m l e k h = k (λ o. h w o (place_stands m i w l e))
+
+-- ---- for callers
+-- a variable that stands in an output has no step
+pub spoken_none : (S : PathSum) (y : ℕ) → outs_occur (S.n + y) S.outs ≡ true → NoneAt S y
+spoken_none S y o (Elim z) e a = off o (subst (λ (x : ℕ). outs_occur (S.n + x) S.outs ≡ false) e a.inner.silent)
+spoken_none S y o (Hh z u) e a = off o (subst (λ (x : ℕ). outs_occur (S.n + x) S.outs ≡ false) e a.inner.silent)
+spoken_none S y o (Omega z) e a = off o (subst (λ (x : ℕ). outs_occur (S.n + x) S.outs ≡ false) e a.inner.silent)
+
+-- no step applies where each variable that may have one stands in an output
+pub spoken_irreducible : (S : PathSum) (m : List ℕ) → ((y : ℕ) → stands (S.n + y) m ≡ false → NoneAt S y) → ((v : ℕ) → S.n ≤ v → stands v m ≡ true → outs_occur v S.outs ≡ true) → IsIrreducible S
+spoken_irreducible S m q h s a = by (stands (S.n + first_of s) m) refl
+  where
+    by : (b : Bool) → stands (S.n + first_of s) m ≡ b → ⊥
+    by true t = spoken_none S (first_of s) (h (S.n + first_of s) (omega arith) t) s refl a
+    by false t = q (first_of s) t s refl a
