@@ -219,7 +219,7 @@ pub skipped_start : (n y : ℕ) (pairs wide : List ℕ) → Skipped n y pairs wi
 unfolding stands
 skipped_start n y pairs wide u s p = off s refl
 
-stands_push : (u : ℕ) (m : List ℕ) (w : ℕ) → stands u (m ++ w ∷ []) ≡ true → (stands u m ≡ true) ⊎ (u ≡ w)
+pub stands_push : (u : ℕ) (m : List ℕ) (w : ℕ) → stands u (m ++ w ∷ []) ≡ true → (stands u m ≡ true) ⊎ (u ≡ w)
 unfolding stands
 stands_push u [] w s = by (nat_eq u w) refl s
   where
@@ -250,7 +250,7 @@ get_above x (w ∷ m) zero a h = a.0
 get_above x (w ∷ m) (suc i) a h = get_above x m i a.1 (omega arith)
 
 -- what is below the one at place i stands before it
-lesser_before : (m : List ℕ) (i u : ℕ) → Climbing m → i < length m → u < get_or m i 0 → stands u m ≡ true → stands u (take i m) ≡ true
+pub lesser_before : (m : List ℕ) (i u : ℕ) → Climbing m → i < length m → u < get_or m i 0 → stands u m ≡ true → stands u (take i m) ≡ true
 unfolding stands
 lesser_before [] i u c h l s = absurd (off s refl)
 lesser_before (x ∷ m) zero u c h l s =

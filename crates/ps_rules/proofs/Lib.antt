@@ -7,6 +7,7 @@ pub mod Seeing
 pub mod Deciding
 pub mod Windows
 pub mod Earliest
+pub mod Suspects
 pub mod Closes
 pub mod Mapped
 pub mod Moved

@@ -103,7 +103,7 @@ pub fn known_sight(sum: &PathSum, y: u16, spoken: bool) -> Sight
 }
 
 // Whether `v` stands in an output.
-fn is_spoken(outs: &[BoolPoly], v: u16) -> bool
+pub fn is_spoken(outs: &[BoolPoly], v: u16) -> bool
     requires { v < 512 }
     ensures { result ≡ outs_occur v outs.now }
 {

@@ -1,6 +1,7 @@
 //! The three rewrite steps of path sums: which step comes first, and the sum after a step.
 #![tactic(auto)]
 
+pub mod among;
 pub mod applying;
 mod checking;
 mod choosing;
@@ -17,6 +18,7 @@ mod spoiling;
 pub mod steps;
 mod taking;
 
+pub use among::{are_spoken, find_among};
 pub use applying::{advance, apply, rewrite};
 pub use faults::{ApplyFault, Refused};
 pub use finding::find;

@@ -1,4 +1,5 @@
-ghost use Rattle.std.specs.Prelude.{◌<◌};
+ghost use Rattle.std.specs.Prelude.{◌≡◌, ◌<◌};
+ghost use Rattle.ps_rules.specs.Rules.{first_of};
 
 use super::*;
 use ps_bool::BoolPoly;
@@ -190,6 +191,47 @@ fn no_redex(rt: HostRuntime) -> Result<(), Fail> {
         let sum = open(alloc, (2, 2), terms, 2)?.expect(&rt, "a sum");
         assert!(rt; refuses(alloc, sum, step, ApplyFault::NotARedex)?);
     }
+    Ok(())
+}
+
+// The path variable that the step takes away.
+fn first_variable(step: Step) -> u16
+    ensures { result ≡ first_of step }
+{
+    match step {
+        Step::Elim { y0 } => y0,
+        Step::Hh { y0, y1: _ } => y0,
+        Step::Omega { y0 } => y0,
+    }
+}
+
+// Whether this is the first step, also where only these variables are looked at. Where there is
+// one, it takes the last path variable away, which is among them.
+fn finds_among(sum: &PathSum, among: &Mono, wanted: Option<Step>) -> bool {
+    let first = match find(sum) {
+        None => return find_among(sum, among) == wanted,
+        Some(step) => first_variable(step),
+    };
+    if first as u32 + 1 != sum.m || !among.contains(sum.n as u16 + first) {
+        return false;
+    }
+    find_among(sum, among) == wanted
+}
+
+// The variables that a step may take away, and those that stand in an output.
+#[test]
+fn among_few(rt: HostRuntime) -> Result<(), Fail> {
+    let alloc = rt.alloc();
+    let turned = open(alloc, (2, 2), &[(3, 4), (6, 4)], 1)?.expect(&rt, "a sum");
+    let step = Step::Hh { y0: 1, y1: 0 };
+    assert!(rt; finds_among(&turned, &product(4), Some(step)));
+    assert!(rt; finds_among(&turned, &product(5), Some(step)));
+    let fixed = open(alloc, (2, 2), &[(2, 7), (4, 7)], 0)?.expect(&rt, "a sum");
+    assert!(rt; finds_among(&fixed, &Mono::one(), None));
+    assert!(rt; finds_among(&fixed, &product(6), None));
+    // the output is path variable 0
+    assert!(rt; are_spoken(turned.outs.polys(), &product(3), 1));
+    assert!(rt; !are_spoken(turned.outs.polys(), &product(6), 1));
     Ok(())
 }
 
