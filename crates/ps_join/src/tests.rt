@@ -89,8 +89,8 @@ fn gated(
     assert!(rt; first.n == second.sum.n);
     assert!(rt; !first.outs.polys().is_empty() && !second.sum.outs.polys().is_empty());
     assert!(rt; first.k > -1000 && first.k < 1000 && second.sum.k > -1000 && second.sum.k < 1000);
-    match join_gate(alloc, first, second) {
-        Ok(sum) => Ok(sum),
+    match join_gate(alloc, Running::of(alloc, first), second) {
+        Ok(sum) => Ok(sum.settled()?),
         Err(OntoFault::Passed { passed, .. }) => Err(JoinFault::Passed(passed)),
         Err(OntoFault::Memory) => Err(JoinFault::Memory),
     }
