@@ -105,11 +105,11 @@ one_set = members_empty (λ v. stands v []) 0 512 (λ v l. refl)
 one_poly : IsPoly ([] ∷ [])
 one_poly = record { in_order = (tt, tt); sets = (one_set, tt) }
 
-one_free : (v : ℕ) → occurs v ([] ∷ []) ≡ false
+pub one_free : (v : ℕ) → occurs v ([] ∷ []) ≡ false
 unfolding occurs stands
 one_free v = refl
 
-one_value : (a : Assignment) → bool_value ([] ∷ []) a ≡ true
+pub one_value : (a : Assignment) → bool_value ([] ∷ []) a ≡ true
 unfolding bool_value holds differ
 one_value a = refl
 

@@ -1,6 +1,5 @@
 -- The one output that a sum changes, put among those of a sum before it.
-use Rattle.std.specs.Prelude.{ℕ, ◌≡◌, ◌≢◌, ◌<◌, true, Bool, List, [], ◌∷◌, Option, Some, None, length, get_or, set}
-use Rattle.ps_mono.specs.Truth.{differ}
+use Rattle.std.specs.Prelude.{ℕ, ◌≡◌, ◌≢◌, ◌<◌, true, not, Bool, List, [], ◌∷◌, Option, Some, None, length, get_or, set}
 use Rattle.ps_bool.specs.Polys.{bool_value, occurs, IsPoly}
 use Rattle.ps_join.specs.declared.putting.Output.{Output}
 use Rattle.ps_join.specs.declared.putting.Output.TheVariants.{Same, Flipped, Put}
@@ -10,7 +9,7 @@ use Rattle.ps_join.specs.Changing.{OneIs, OthersStay}
 -- g is 1 where f is 0
 pub record IsFlipOf (f g : List (List ℕ)) : Type 0 where
   pub form : IsPoly g
-  pub value : (a : ℕ → Bool) → bool_value g a ≡ differ (bool_value f a) true
+  pub value : (a : ℕ → Bool) → bool_value g a ≡ not (bool_value f a)
   pub variables : (v : ℕ) → occurs v g ≡ true → occurs v f ≡ true
 
 -- the place of the output that changes

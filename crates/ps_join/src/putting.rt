@@ -1,6 +1,6 @@
 //! The one output that a gate changes, put among those of the sum before it.
 
-ghost use Rattle.std.specs.Prelude.{◌≡◌, ℕ, ◌<◌, true, Some, [], length, get_or, set, IfOk, IsTrue};
+ghost use Rattle.std.specs.Prelude.{◌≡◌, ℕ, ◌<◌, List, true, Some, [], length, get_or, set, IfOk, IsTrue};
 ghost use Rattle.ps_join.specs.Placing.{IsFlipOf, IsInside, IsPut, place_of};
 
 use super::limits::SHORT;

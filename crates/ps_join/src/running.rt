@@ -64,10 +64,11 @@ impl Running {
     pub fn of(alloc: Global, sum: PathSum) -> Running
         ensures { result ≡ sum }
     {
+        let short = all_short(sum.outs.polys());
         Running {
             sum,
             more: PhasePoly::zero(alloc),
-            short: false,
+            short,
         }
     }
 
@@ -187,20 +188,7 @@ impl Running {
         if self.more.count() <= FEW + self.sum.phase.count() / 4 {
             return Ok(self);
         }
-        self.lightened(alloc)
-    }
-
-    // The same sum, in whose phase the terms that wait are taken.
-    fn lightened(self, alloc: Global) -> Result<Running, AllocError>
-        ensures { IfOk result (λ s. s ≡ self) }
-    {
-        let short = self.short;
-        let sum = self.settled()?;
-        Ok(Running {
-            sum,
-            more: PhasePoly::zero(alloc),
-            short,
-        })
+        Ok(Running::of(alloc, self.settled()?))
     }
 
     // The sum with output `c` added to output `t`.
