@@ -1,11 +1,11 @@
 -- The one output that a gate changes, put among those of the sum before it.
-use Rattle.std.proofs.Common.{◌≡◌, ◌≢◌, ℕ, ◌+◌, ◌*◌, ◌%◌, refl, ap, ap₂, sym, ◌∙◌, subst, arith, ◌<◌, ◌≤◌, Bool, true, false, not, ◌||◌, List, [], ◌∷◌, length, get_or, set, Option, Some, None, ◌⊎◌, inl, inr}
+use Rattle.std.proofs.Common.{◌≡◌, ℕ, ◌+◌, ◌%◌, refl, ap, sym, ◌∙◌, subst, arith, ◌<◌, ◌≤◌, Bool, true, false, not, ◌||◌, List, [], ◌∷◌, length, get_or, set, Some, None, ◌⊎◌, inl, inr}
 use Rattle.std.proofs.lemmas.Bool.{cases_eq}
 use Rattle.std.proofs.lemmas.List.{get_or_default, get_or-set_other, length-set}
 use Rattle.ps_mono.specs.Truth.{differ}
 use Rattle.ps_bool.specs.Polys.{bool_value, occurs, IsPoly}
 use Rattle.ps_phase.specs.declared.terms.Term.{Term}
-use Rattle.ps_phase.specs.Phases.{phase_value, phase_occurs, IsPhasePoly}
+use Rattle.ps_phase.specs.Phases.{phase_value, IsPhasePoly}
 use Rattle.ps_phase.specs.Adding.{add_terms}
 use Rattle.ps_sum.specs.Outs.{outs_occur}
 use Rattle.ps_sum.specs.declared.sums.PathSum.{PathSum}
@@ -13,7 +13,7 @@ use Rattle.ps_join.specs.declared.putting.Output.{Output}
 use Rattle.ps_join.specs.declared.putting.Output.TheVariants.{Same, Flipped, Put}
 use Rattle.ps_join.specs.Joining.{IsJoinOf}
 use Rattle.ps_join.specs.Parts.{PhasePart, BoolPart}
-use Rattle.ps_join.specs.Changing.{AllShort, OneIs}
+use Rattle.ps_join.specs.Changing.{AllShort}
 use Rattle.ps_join.specs.Plainly.{IsAdded}
 use Rattle.ps_join.specs.Placing.{IsFlipOf, place_of, IsInside, OthersSame, IsPut, Becomes}
 use Rattle.ps_join.specs.Totals.{IsNamed, with_more}

@@ -1,8 +1,8 @@
-use Rattle.std.proofs.Common.{◌≡◌, ◌∙◌, refl, sym, subst, length, ap, rules, arith}
+use Rattle.std.proofs.Common.{◌∙◌, refl, sym, subst, length, ap, rules, arith}
 use mir.Syntax.{w32}
 use mir.Val.{SFits}
 use Rattle.std.proofs.Math.IntN.{◌+ℤ◌}
-use Rattle.ps_join.specs.Placing.{IsInside, IsPut}
+use Rattle.ps_join.specs.Placing.{IsPut}
 use Rattle.ps_join.proofs.Merging.{Outputs, two_k}
 use Rattle.ps_join.proofs.Puts.{becomes_inside, put_outputs}
 use Rattle.ps_join.proofs.running.widened.Goals as goal

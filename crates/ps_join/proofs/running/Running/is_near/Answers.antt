@@ -1,4 +1,4 @@
-use Rattle.std.proofs.Common.{ap, ◌∙◌, subst, arith, ◌+◌, ◌*◌, ◌≤◌}
+use Rattle.std.proofs.Common.{subst, ◌+◌, ◌*◌, ◌≤◌}
 use Rattle.ps_sum.specs.declared.sums.PathSum.{PathSum}
 use Rattle.ps_join.proofs.running.Running.is_near.Goals as goal
 
