@@ -1,5 +1,6 @@
 pub mod Bools
 pub mod Merges
+mod Flips
 pub mod Unique
 pub mod Variables
 pub mod Values

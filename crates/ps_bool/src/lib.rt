@@ -5,6 +5,7 @@
 //! `λ v. stands v b`.
 #![tactic(auto)]
 
+mod flipping;
 mod gather;
 mod merge;
 pub mod poly;

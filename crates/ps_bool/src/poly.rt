@@ -3,6 +3,7 @@ ghost use Rattle.ps_mono.specs.Sets.{stands, IsVarSet};
 ghost use Rattle.ps_mono.specs.Truth.{differ, with_value};
 ghost use Rattle.ps_bool.specs.Polys.{bool_value, occurs, IsPoly};
 
+use super::flipping::with_one_flipped;
 use super::gather::{cancel_pairs, products, replaced, without_variable};
 use super::merge::merged;
 use ps_mono::{Bits, Mono};
@@ -85,6 +86,20 @@ impl BoolPoly {
         ensures form { IfOk result (λ p. IsPoly p) }
     {
         let monos = merged(*self.monos.allocator(), &self.monos, &other.monos)?;
+        Ok(BoolPoly { monos })
+    }
+
+    /// The sum modulo 2 with 1, in the memory of the polynomial: the monomial 1 is taken out where it
+    /// stands, and else put in. The polynomial is given away, also where the call answers `Err`.
+    pub fn flipped(self) -> Result<BoolPoly, AllocError>
+        ensures value { IfOk result (λ p. (a : ℕ → Bool) →
+            bool_value p a ≡ differ (bool_value self a) (bool_value ([] ∷ []) a)) }
+        ensures variables { IfOk result (λ p. (v : ℕ) →
+            occurs v p ≡ true → (occurs v self || occurs v ([] ∷ [])) ≡ true) }
+        ensures form { IfOk result (λ p. IsPoly p) }
+    {
+        let BoolPoly { monos } = self;
+        let monos = with_one_flipped(monos)?;
         Ok(BoolPoly { monos })
     }
 

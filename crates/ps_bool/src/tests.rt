@@ -26,6 +26,29 @@ fn sums(rt: HostRuntime) -> Result<(), Fail> {
     Ok(())
 }
 
+// x0 + 1 has the monomial 1 in front of x0, and with 1 added again it is x0; 1 + 1 is 0.
+#[test]
+fn flips(rt: HostRuntime) -> Result<(), Fail> {
+    let alloc = rt.alloc();
+    let first = BoolPoly::var(alloc, 0)?;
+    let flipped = first.copy()?.flipped()?;
+    assert_eq!(rt; flipped.count(), 2);
+    assert_eq!(rt; *flipped.mono(0), Mono::one());
+    assert_eq!(rt; *flipped.mono(1), Mono::var(0));
+    assert!(rt; flipped.flipped()?.same(&first));
+    assert!(rt;
+        BoolPoly::one(alloc)?
+            .flipped()?
+            .same(&BoolPoly::zero(alloc))
+    );
+    assert!(rt;
+        BoolPoly::zero(alloc)
+            .flipped()?
+            .same(&BoolPoly::one(alloc)?)
+    );
+    Ok(())
+}
+
 // Products, substitutions and whether a variable stands alone.
 #[test]
 fn products(rt: HostRuntime) -> Result<(), Fail> {
