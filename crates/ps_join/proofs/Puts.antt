@@ -1,5 +1,5 @@
 -- The one output that a gate changes, put among those of the sum before it.
-use Rattle.std.proofs.Common.{◌≡◌, ℕ, ◌+◌, ◌%◌, refl, ap, sym, ◌∙◌, subst, arith, ◌<◌, ◌≤◌, Bool, true, false, not, ◌||◌, List, [], ◌∷◌, length, get_or, set, Some, None, ◌⊎◌, inl, inr}
+use Rattle.std.proofs.Common.{◌≡◌, ℕ, zero, suc, ◌+◌, ◌%◌, refl, ap, sym, ◌∙◌, subst, arith, ◌<◌, ◌≤◌, Bool, true, false, not, ◌||◌, List, [], ◌∷◌, length, get_or, set, Some, None, ◌⊎◌, inl, inr}
 use Rattle.std.proofs.lemmas.Bool.{cases_eq}
 use Rattle.std.proofs.lemmas.List.{get_or_default, get_or-set_other, length-set}
 use Rattle.ps_mono.specs.Truth.{differ}
@@ -38,15 +38,20 @@ either false y e = absurd (never e)
     never : false ≡ true → ⊥
     never e = cc
 
-pub made_flip : (q : ℕ) (fs : List (List (List ℕ))) (f one p : List (List ℕ)) → q < length fs → f ≡ get_or fs q f → one ≡ [] ∷ [] → IsPoly p
-    → ((a : ℕ → Bool) → bool_value p a ≡ differ (bool_value f a) (bool_value one a)) → ((v : ℕ) → occurs v p ≡ true → (occurs v f || occurs v one) ≡ true) → IsFlipOf (get_or fs q []) p
-made_flip q fs f one p h e o form value vars =
+pub made_flip : (q : ℕ) (fs : List (List (List ℕ))) (f p : List (List ℕ)) → q < length fs → f ≡ get_or fs q f → IsPoly p
+    → ((a : ℕ → Bool) → bool_value p a ≡ differ (bool_value f a) (bool_value ([] ∷ []) a)) → ((v : ℕ) → occurs v p ≡ true → (occurs v f || occurs v ([] ∷ [])) ≡ true) → IsFlipOf (get_or fs q []) p
+made_flip q fs f p h e form value vars =
     let same : f ≡ get_or fs q [] = e ∙ get_or_default fs q f [] h in
     subst (λ (x : List (List ℕ)). IsFlipOf x p) same (record {
       form = form;
-      value = λ a. value a ∙ ap (differ (bool_value f a)) (ap (λ (x : List (List ℕ)). bool_value x a) o ∙ one_value a) ∙ not_differ (bool_value f a);
-      variables = λ v k. first_of (occurs v f) (occurs v one) (vars v k) (ap (occurs v) o ∙ one_free v);
+      value = λ a. value a ∙ ap (differ (bool_value f a)) (one_value a) ∙ not_differ (bool_value f a);
+      variables = λ v k. first_of (occurs v f) (occurs v ([] ∷ [])) (vars v k) (one_free v);
     })
+
+pub set_twice : (q : ℕ) (fs : List (List (List ℕ))) (f g : List (List ℕ)) → set (set fs q f) q g ≡ set fs q g
+set_twice q [] f g = refl
+set_twice zero (h ∷ fs) f g = refl
+set_twice (suc q) (h ∷ fs) f g = ap (λ (r : List (List (List ℕ))). h ∷ r) (set_twice q fs f g)
 
 put_flip : (n m1 m2 q : ℕ) (fs : List (List (List ℕ))) (g p : List (List ℕ)) → q < n → length fs ≡ n → ((v : ℕ) → n + m1 ≤ v → outs_occur v fs ≡ false) → g ≡ [] ∷ (q ∷ []) ∷ [] → IsFlipOf (get_or fs q []) p → BoolPart n m1 m2 fs g p
 put_flip n m1 m2 q fs g p h w b d t =

@@ -6,6 +6,7 @@ ghost use Rattle.ps_join.specs.Placing.{IsFlipOf, IsInside, IsPut, place_of};
 use super::limits::SHORT;
 use ps_bool::BoolPoly;
 use std::alloc::{AllocError, Global};
+use std::mem;
 
 // The output that changes behind a sum, with its place.
 #[derive(Drop)]
@@ -37,8 +38,8 @@ fn with_flip(alloc: Global, outs: Vec<BoolPoly>, q: u16) -> Result<Vec<BoolPoly>
     ensures { IfOk result (λ r. (g : List (List ℕ)) × (IsFlipOf (get_or outs.items q []) g × (r.items ≡ set outs.items q g))) }
 {
     let mut outs = outs;
-    let one = BoolPoly::one(alloc)?;
-    let poly = outs[q as usize].xor(&one)?;
+    let old = mem::replace(&mut outs[q as usize], BoolPoly::zero(alloc));
+    let poly = old.flipped()?;
     outs[q as usize] = poly;
     Ok(outs)
 }

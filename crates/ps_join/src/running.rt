@@ -139,6 +139,7 @@ impl Running {
     pub(crate) fn bare(&self) -> &PathSum
         ensures qubits { result.now.n ≡ self.now.n }
         ensures paths { result.now.m ≡ self.now.m }
+        ensures scale { result.now.k ≡ self.now.k }
         ensures outs { result.now.outs ≡ self.now.outs }
     {
         &self.sum
