@@ -9,3 +9,4 @@ pub mod Touching
 pub mod PlainSums
 pub mod PlainJoins
 pub mod Totals
+pub mod Puts

@@ -4,7 +4,6 @@ use Rattle.std.specs.Prelude.{IfSome}
 use Rattle.ps_ring.specs.Truths.{Truths, bit}
 use Rattle.ps_phase.specs.declared.terms.Term.{Term}
 use Rattle.ps_phase.specs.Phases.{phase_value, phase_occurs, IsPhasePoly}
-use Rattle.ps_phase.specs.Adding.{add_terms}
 use Rattle.ps_phase.proofs.Adding.{add_value}
 use Rattle.ps_sum.specs.declared.sums.PathSum.{PathSum}
 use Rattle.ps_sum.specs.Outs.{values}
@@ -66,6 +65,18 @@ total_added S old more new of nf ob nb h = record {
   outs_are = refl;
   phase_is = λ a. gained (phase_value S.phase a) (phase_value old a) (phase_value more a) (phase_value new a) _ _ (add_value S.phase old a) (add_value S.phase new a) (h a);
 }
+
+pub nothing_added : (S : PathSum) (more : List Term) → length more ≡ 0 → IsAdded S more S
+nothing_added S more e = record {
+  n_is = refl;
+  m_is = refl;
+  k_is = refl;
+  outs_are = refl;
+  phase_is = λ a. let z = none_value more a e in ap (λ k. k % 4294967296) (kept (phase_value S.phase a) (phase_value more a) z);
+}
+  where
+    kept : (x y : ℕ) → y ≡ 0 → x ≡ x + y
+    kept x y e = omega (arith, e)
 
 pub total_near : (S : PathSum) (more : List Term) (f : IsPhasePoly more) (b : IsNamed S more) → IsNear S → IsNear (with_more S more f b)
 total_near S more f b h = record { named = h.named; short = h.short }

@@ -22,7 +22,7 @@ use Rattle.ps_join.specs.declared.changes.Change.{Change}
 use Rattle.ps_join.specs.declared.changes.Change.TheVariants.{Stay, Path, Flip, More}
 use Rattle.ps_join.specs.Joining.{PhaseAfter, PhaseNamed, BoolNamed, PhaseChain, OutputChain, OutputChains, JoinFits}
 use Rattle.ps_join.specs.Parts.{PhasePart, BoolPart, OutputPart, OutputParts, Placed, chosen}
-use Rattle.ps_join.specs.Changing.{OthersStay, OneIs, IsChange, IsKind, OnlyInput, AllShort, Becomes, put_output}
+use Rattle.ps_join.specs.Changing.{OthersStay, OneIs, IsChange, IsKind, OnlyInput, AllShort}
 use Rattle.ps_join.proofs.Outputs.{get_value, get_free, var_poly, var_free}
 use Rattle.ps_join.proofs.NamedParts.{name_front, name_back}
 use Rattle.ps_join.proofs.Chains.{PhaseLoop, phase_start, phase_step, idle_phase, idle_phase_count, idle_variables, idle_chain, kept_fits, never}
@@ -105,11 +105,11 @@ one_set = members_empty (λ v. stands v []) 0 512 (λ v l. refl)
 one_poly : IsPoly ([] ∷ [])
 one_poly = record { in_order = (tt, tt); sets = (one_set, tt) }
 
-one_free : (v : ℕ) → occurs v ([] ∷ []) ≡ false
+pub one_free : (v : ℕ) → occurs v ([] ∷ []) ≡ false
 unfolding occurs stands
 one_free v = refl
 
-one_value : (a : Assignment) → bool_value ([] ∷ []) a ≡ true
+pub one_value : (a : Assignment) → bool_value ([] ∷ []) a ≡ true
 unfolding bool_value holds differ
 one_value a = refl
 
@@ -189,6 +189,16 @@ changes_fit n m1 m2 fs gs (Flip q) k d x w r p b l s = let o = k.flip q refl in 
 changes_fit n m1 m2 fs gs More k d x w r p b l s = absurd (d refl)
 
 -- ---- the changed output in its place
+-- the changed output of the second's outputs gs, with its place, behind the first's outputs fs; None: each is its input
+abbrev pub BecomesOne : ℕ → ℕ → ℕ → List (List (List ℕ)) → List (List (List ℕ)) → Option (ℕ × List (List ℕ)) → Type 0
+BecomesOne n m1 m2 fs gs None = (i : ℕ) → i < length gs → get_or gs i [] ≡ (i ∷ []) ∷ []
+BecomesOne n m1 m2 fs gs (Some o) = (o.0 < length gs) × (OthersStay o.0 gs × BoolPart n m1 m2 fs (get_or gs o.0 []) o.1)
+
+-- it stands in its place
+abbrev pub put_output : Option (ℕ × List (List ℕ)) → List (List (List ℕ)) → List (List (List ℕ))
+put_output None fs = fs
+put_output (Some o) fs = set fs o.0 o.1
+
 nones : ℕ → List (Option (List (List ℕ)))
 nones zero = []
 nones (suc n) = None ∷ nones n
@@ -209,7 +219,7 @@ parts_of : ℕ → Option (ℕ × List (List ℕ)) → List (Option (List (List 
 parts_of n None = nones n
 parts_of n (Some o) = set (nones n) o.0 (Some o.1)
 
-become_parts : (n m1 m2 : ℕ) (fs gs : List (List (List ℕ))) (o : Option (ℕ × List (List ℕ))) → length gs ≡ n → Becomes n m1 m2 fs gs o → OutputParts n m1 m2 fs gs (parts_of n o)
+become_parts : (n m1 m2 : ℕ) (fs gs : List (List (List ℕ))) (o : Option (ℕ × List (List ℕ))) → length gs ≡ n → BecomesOne n m1 m2 fs gs o → OutputParts n m1 m2 fs gs (parts_of n o)
 unfolding parts_of
 become_parts n m1 m2 fs gs None x b = record { wide = nones_length n ∙ sym x; each = λ i h. subst (λ (z : Option (List (List ℕ))). OutputPart n m1 m2 fs i (get_or gs i []) z) (sym (nones_get n i)) (b i h) }
 become_parts n m1 m2 fs gs (Some (q, f)) x b = record { wide = length-set (nones n) q (Some f) ∙ nones_length n ∙ sym x; each = λ i h. by i h (cases_eq i q) }
@@ -221,7 +231,7 @@ become_parts n m1 m2 fs gs (Some (q, f)) x b = record { wide = length-set (nones
     by i h (inr d) =
         subst (λ (z : Option (List (List ℕ))). OutputPart n m1 m2 fs i (get_or gs i []) z) (sym (get_or-set_other (nones n) q i (Some f) None d ∙ nones_get n i)) (b.1.0 i h d)
 
-become_placed : (n m1 m2 : ℕ) (fs gs : List (List (List ℕ))) (o : Option (ℕ × List (List ℕ))) → length gs ≡ n → length fs ≡ n → Becomes n m1 m2 fs gs o → Placed fs (parts_of n o) (put_output o fs)
+become_placed : (n m1 m2 : ℕ) (fs gs : List (List (List ℕ))) (o : Option (ℕ × List (List ℕ))) → length gs ≡ n → length fs ≡ n → BecomesOne n m1 m2 fs gs o → Placed fs (parts_of n o) (put_output o fs)
 unfolding parts_of
 become_placed n m1 m2 fs gs None x w b = record { wide = refl; each = λ i h. sym (ap (λ (z : Option (List (List ℕ))). chosen z (get_or fs i [])) (nones_get n i)) }
 become_placed n m1 m2 fs gs (Some (q, f)) x w b = record { wide = length-set fs q f; each = λ i h. by i h (cases_eq i q) }
@@ -233,7 +243,7 @@ become_placed n m1 m2 fs gs (Some (q, f)) x w b = record { wide = length-set fs 
     by i h (inr d) = get_or-set_other fs q i f [] d ∙ sym (ap (λ (z : Option (List (List ℕ))). chosen z (get_or fs i [])) (get_or-set_other (nones n) q i (Some f) None d ∙ nones_get n i))
 
 -- ---- the parts of a join
-pub gated_outputs : (S1 S2 : PathSum) (fs gs rs : List (List (List ℕ))) (o : Option (ℕ × List (List ℕ))) → S1.n ≡ S2.n → 0 < length S1.outs → 0 < length S2.outs → fs ≡ S1.outs → gs ≡ put_output o fs → rs ≡ gs → Becomes S1.n S1.m S2.m S1.outs S2.outs o
+pub gated_outputs : (S1 S2 : PathSum) (fs gs rs : List (List (List ℕ))) (o : Option (ℕ × List (List ℕ))) → S1.n ≡ S2.n → 0 < length S1.outs → 0 < length S2.outs → fs ≡ S1.outs → gs ≡ put_output o fs → rs ≡ gs → BecomesOne S1.n S1.m S2.m S1.outs S2.outs o
     → Outputs S1.n S1.m S2.m S1.outs S2.outs rs
 gated_outputs S1 S2 fs gs rs o e o1 o2 f g r b =
     let wide : length S1.outs ≡ S1.n = S1.width o1 in
@@ -260,11 +270,6 @@ pub part_there : (S1 S2 : PathSum) (n m1 m2 : ℕ) (fs : List (List (List ℕ)))
 part_there S1 S2 n m1 m2 fs p q en em1 em2 ef ep t =
     subst (λ (x : ℕ). PhasePart x S1.m S2.m S1.outs S2.phase q) en (subst (λ (x : ℕ). PhasePart n x S2.m S1.outs S2.phase q) em1 (subst (λ (x : ℕ). PhasePart n m1 x S1.outs S2.phase q) em2
     (subst (λ (x : List (List (List ℕ))). PhasePart n m1 m2 x S2.phase q) ef (subst (λ (x : List Term). PhasePart n m1 m2 fs x q) ep t))))
-
-pub becomes_there : (S1 S2 : PathSum) (n m1 m2 : ℕ) (fs gs : List (List (List ℕ))) (o : Option (ℕ × List (List ℕ))) → n ≡ S1.n → m1 ≡ S1.m → m2 ≡ S2.m → fs ≡ S1.outs → gs ≡ S2.outs → Becomes n m1 m2 fs gs o → Becomes S1.n S1.m S2.m S1.outs S2.outs o
-becomes_there S1 S2 n m1 m2 fs gs o en em1 em2 ef eg t =
-    subst (λ (x : ℕ). Becomes x S1.m S2.m S1.outs S2.outs o) en (subst (λ (x : ℕ). Becomes n x S2.m S1.outs S2.outs o) em1 (subst (λ (x : ℕ). Becomes n m1 x S1.outs S2.outs o) em2
-    (subst (λ (x : List (List (List ℕ))). Becomes n m1 m2 x S2.outs o) ef (subst (λ (x : List (List (List ℕ))). Becomes n m1 m2 fs x o) eg t))))
 
 -- ---- which polynomials are such
 pub is_path : (g : List (List ℕ)) (m : List ℕ) (y : ℕ) → length g ≡ 1 → slice_get g 0 ≡ Some m → length m ≡ 1 → y ≡ get_or m 0 0 → g ≡ (y ∷ []) ∷ []

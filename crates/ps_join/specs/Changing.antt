@@ -1,5 +1,5 @@
 -- Sums that change at most one output, and what they come to behind others.
-use Rattle.std.specs.Prelude.{ℕ, ◌≡◌, ◌≢◌, ◌<◌, ◌≤◌, false, List, [], ◌∷◌, Option, Some, None, length, get_or, set}
+use Rattle.std.specs.Prelude.{ℕ, ◌≡◌, ◌≢◌, ◌<◌, ◌≤◌, false, List, [], ◌∷◌, length, get_or}
 use Rattle.std.specs.Coded.{le_prop}
 use Rattle.std.proofs.Props.{props}
 use Rattle.ps_mono.specs.Sets.{stands}
@@ -7,7 +7,6 @@ use Rattle.ps_phase.specs.declared.terms.Term.{Term}
 use Rattle.ps_phase.specs.Phases.{phase_occurs}
 use Rattle.ps_join.specs.declared.changes.Change.{Change}
 use Rattle.ps_join.specs.declared.changes.Change.TheVariants.{Stay, Path, Flip}
-use Rattle.ps_join.specs.Parts.{BoolPart}
 
 -- each output but output q is its input
 abbrev pub OthersStay : ℕ → List (List (List ℕ)) → Type 0
@@ -43,18 +42,3 @@ OnlyInput n q p = (u : ℕ) → u < n → u ≢ q → phase_occurs u p ≡ false
 -- each output is short
 abbrev pub AllShort : List (List (List ℕ)) → Type 0
 AllShort fs = (i : ℕ) → i < length fs → length (get_or fs i []) < 32768
-
--- the changed output of the second's outputs gs, with its place, behind the first's outputs fs; None: each is its input
-abbrev pub Becomes : ℕ → ℕ → ℕ → List (List (List ℕ)) → List (List (List ℕ)) → Option (ℕ × List (List ℕ)) → Type 0
-Becomes n m1 m2 fs gs None = (i : ℕ) → i < length gs → get_or gs i [] ≡ (i ∷ []) ∷ []
-Becomes n m1 m2 fs gs (Some o) = (o.0 < length gs) × (OthersStay o.0 gs × BoolPart n m1 m2 fs (get_or gs o.0 []) o.1)
-
--- its place is below the width
-abbrev pub IsInside : ℕ → Option (ℕ × List (List ℕ)) → Type 0
-IsInside width None = Unit {0}
-IsInside width (Some o) = o.0 < width
-
--- it stands in its place
-abbrev pub put_output : Option (ℕ × List (List ℕ)) → List (List (List ℕ)) → List (List (List ℕ))
-put_output None fs = fs
-put_output (Some o) fs = set fs o.0 o.1

@@ -8,3 +8,5 @@ pub mod Laws
 pub mod Changing
 pub mod Plainly
 pub mod Totals
+pub mod Placing
+pub mod Widening

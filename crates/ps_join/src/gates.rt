@@ -34,6 +34,14 @@ impl Gate {
         let change = change_of(sum.outs.polys(), sum.n as u16);
         Gate { sum, input, change }
     }
+
+    /// Which of its outputs it changes.
+    pub fn change(&self) -> Change
+        ensures same { result ≡ self.now.change }
+        ensures changes { IsChange self.now.sum.value.n self.now.sum.value.outs result }
+    {
+        self.change
+    }
 }
 
 // Whether the input is `q`, or stands not among the variables.

@@ -9,24 +9,26 @@ ghost use Rattle.ps_join.specs.declared.changes.Change.TheVariants.{More};
 ghost use Rattle.ps_join.specs.Joining.{IsJoinOf, JoinFits, PhaseChain};
 ghost use Rattle.ps_join.specs.OntoFaults.{IsOntoFault};
 ghost use Rattle.ps_join.specs.Parts.{PhasePart};
-ghost use Rattle.ps_join.specs.Changing.{IsChange, OnlyInput, AllShort, Becomes, IsInside, put_output};
+ghost use Rattle.ps_join.specs.Changing.{IsChange, OnlyInput, AllShort};
+ghost use Rattle.ps_join.specs.Placing.{Becomes};
 
 use super::changes::Change;
 use super::gates::Gate;
-use super::joins::join_onto;
 use super::limits::{MOST_TERMS, MOST_VARIABLES, SHORT};
 use super::naming::{Names, named_phase};
 use super::onto_fault::OntoFault;
+use super::putting::Output;
+use super::running::{Running, join_settled};
 use ps_bool::BoolPoly;
 use ps_phase::PhasePoly;
-use ps_sum::{Outputs, PathSum, raw_phase, subst_phase};
+use ps_sum::{PathSum, raw_phase, subst_phase};
 use std::alloc::{AllocError, Global};
 
 // What a gate's sum comes to behind another: its phase, and the output that it changes, with its place.
 #[derive(Drop)]
 struct Behind {
     phase: PhasePoly,
-    output: Option<(u16, BoolPoly)>,
+    output: Output,
 }
 
 // Whether each output is short.
@@ -104,29 +106,25 @@ fn new_output(
     names: &Names,
     change: Change,
     polys: &[BoolPoly],
-    outs: &[BoolPoly],
-) -> Result<Option<(u16, BoolPoly)>, AllocError>
+) -> Result<Output, AllocError>
     requires changes { IsChange names.now.n polys.now change }
     requires known { change ≢ More }
     requires below { (v : ℕ) → names.now.n + names.now.m2 ≤ v → outs_occur v polys.now ≡ false }
-    requires second_wide { length polys.now ≡ names.now.n }
-    requires wide { length outs.now ≡ names.now.n }
-    requires outs_below { (v : ℕ) → names.now.n + names.now.m1 ≤ v → outs_occur v outs.now ≡ false }
-    ensures { IfOk result (λ r. Becomes names.now.n names.now.m1 names.now.m2 outs.now polys.now r) }
+    ensures { IfOk result (λ r. (fs : List (List (List ℕ))) → Becomes names.now.n names.now.m1 names.now.m2 fs polys.now r) }
 {
     match change {
-        Change::Stay => Ok(None),
-        Change::Path { q, y } => Ok(Some((q, BoolPoly::var(alloc, y + names.m1)?))),
-        Change::Flip { q } => {
-            let one = BoolPoly::one(alloc)?;
-            Ok(Some((q, outs[q as usize].xor(&one)?)))
+        Change::Stay => Ok(Output::Same),
+        Change::Path { q, y } => {
+            let poly = BoolPoly::var(alloc, y + names.m1)?;
+            Ok(Output::Put { q, poly })
         }
+        Change::Flip { q } => Ok(Output::Flipped { q }),
         Change::More => unreachable!(),
     }
 }
 
 // What the gate's sum comes to behind the first, where both fit and that is simple.
-fn made_behind(alloc: Global, first: &PathSum, gate: &Gate) -> Result<Option<Behind>, AllocError>
+fn made_behind(alloc: Global, first: &Running, gate: &Gate) -> Result<Option<Behind>, AllocError>
     requires qubits { first.now.n ≡ gate.now.sum.value.n }
     requires first_open { 0 < length first.now.outs }
     requires second_open { 0 < length gate.now.sum.value.outs }
@@ -135,39 +133,32 @@ fn made_behind(alloc: Global, first: &PathSum, gate: &Gate) -> Result<Option<Beh
     ensures fits { IfOk result (λ r. IfSome r (λ b. JoinFits first.now gate.now.sum.value)) }
 {
     let second: &PathSum = &gate.sum;
-    let outs = first.outs.polys();
+    let sum = first.bare();
     if let Change::More = gate.change {
         return Ok(None);
     }
-    if 2 * first.n + first.m + second.m > MOST_VARIABLES {
+    if 2 * sum.n + sum.m + second.m > MOST_VARIABLES {
         return Ok(None);
     }
-    if !all_short(outs) {
+    if !first.is_short() {
         return Ok(None);
     }
-    let names = Names::of_sums(first, second);
+    let outs = sum.outs.polys();
+    let names = Names::of_sums(sum, second);
     let Some(phase) = phase_behind(alloc, &names, &second.phase, gate.input, outs)? else {
         return Ok(None);
     };
-    let output = new_output(alloc, &names, gate.change, second.outs.polys(), outs)?;
+    let output = new_output(alloc, &names, gate.change, second.outs.polys())?;
     Ok(Some(Behind { phase, output }))
 }
 
-// The outputs with the one that changed in its place.
-fn placed(outs: Vec<BoolPoly>, output: Option<(u16, BoolPoly)>) -> Vec<BoolPoly>
-    requires { IsInside (length outs.items) output }
-    ensures { result.items ≡ put_output output outs.items }
-{
-    let mut outs = outs;
-    match output {
-        Some((q, poly)) => outs[q as usize] = poly,
-        None => {}
-    }
-    outs
-}
-
 // The first sum with what the second comes to behind it.
-fn gated(first: PathSum, second: &PathSum, behind: Behind) -> Result<PathSum, AllocError>
+fn gated(
+    alloc: Global,
+    first: Running,
+    second: &PathSum,
+    behind: Behind,
+) -> Result<Running, AllocError>
     requires qubits { first.n ≡ second.now.n }
     requires first_open { 0 < length first.outs }
     requires second_open { 0 < length second.now.outs }
@@ -178,32 +169,14 @@ fn gated(first: PathSum, second: &PathSum, behind: Behind) -> Result<PathSum, Al
     ensures sum { IfOk result (λ s. IsJoinOf first second.now s) }
     ensures wide { IfOk result (λ s. length s.outs ≡ first.n) }
 {
-    let PathSum {
-        n,
-        m,
-        k,
-        phase,
-        outs,
-    } = first;
-    let Behind {
-        phase: more,
-        output,
-    } = behind;
-    let mut sum = phase;
-    sum.add_to(&more)?;
-    let outs = placed(outs.into_polys(), output);
-    Ok(PathSum {
-        n,
-        m: m + second.m,
-        k: k + second.k,
-        phase: sum,
-        outs: Outputs::of(outs),
-    })
+    let Behind { phase, output } = behind;
+    let widened = first.widened(alloc, second, output)?;
+    widened.added(alloc, &phase)
 }
 
 /// `join_onto` for a sum that is ready. Where it changes at most one output and its phase has at most
-/// one input, as with primitive gates, the other outputs are only looked at.
-pub fn join_gate(alloc: Global, first: PathSum, gate: &Gate) -> Result<PathSum, OntoFault>
+/// one input, as with primitive gates, the other outputs are only looked at, and its terms wait.
+pub fn join_gate(alloc: Global, first: Running, gate: &Gate) -> Result<Running, OntoFault>
     requires qubits { first.n ≡ gate.now.sum.value.n }
     requires first_open { 0 < length first.outs }
     requires second_open { 0 < length gate.now.sum.value.outs }
@@ -215,11 +188,11 @@ pub fn join_gate(alloc: Global, first: PathSum, gate: &Gate) -> Result<PathSum, 
     ensures passed { IfErr result (λ e. IsOntoFault first gate.now.sum.value e) }
 {
     match made_behind(alloc, &first, gate) {
-        Ok(Some(behind)) => match gated(first, &gate.sum, behind) {
+        Ok(Some(behind)) => match gated(alloc, first, &gate.sum, behind) {
             Ok(sum) => Ok(sum),
             Err(_) => Err(OntoFault::Memory),
         },
-        Ok(None) => join_onto(alloc, first, &gate.sum),
+        Ok(None) => join_settled(alloc, first, &gate.sum),
         Err(_) => Err(OntoFault::Memory),
     }
 }

@@ -1,7 +1,7 @@
 //! The path sums of primitive gates, and path sums one after the other.
 #![tactic(auto)]
 
-mod changes;
+pub mod changes;
 pub mod gates;
 mod gating;
 pub mod joins;
@@ -11,9 +11,11 @@ mod limits;
 mod naming;
 pub mod onto_fault;
 mod plains;
+mod putting;
 mod replacing;
 pub mod running;
 
+pub use changes::Change;
 pub use gates::Gate;
 pub use gating::join_gate;
 pub use joins::{join, join_onto};

@@ -9,6 +9,7 @@ ghost use Rattle.ps_sum.specs.declared.sums.PathSum.{PathSum};
 ghost use Rattle.ps_sum.specs.Sums.{path_values};
 ghost use Rattle.ps_join.specs.Joining.{IsLeafOf, IsJoinOf, JoinFits};
 ghost use Rattle.ps_join.specs.OntoFaults.{IsOntoFault};
+ghost use Rattle.ps_join.specs.Placing.{OthersSame};
 ghost use Rattle.ps_join.specs.Plainly.{IsBehind, IsAdded, IsLift, IsNear};
 
 use super::joins::join_onto;
@@ -41,7 +42,8 @@ fn lifted(alloc: Global, poly: &BoolPoly, turn: Phase) -> Result<Option<PhasePol
 pub(crate) fn with_exchange(first: PathSum, c: u32, t: u32) -> Result<PathSum, AllocError>
     requires control { c < length first.outs }
     requires target { t < length first.outs }
-    ensures { IfOk result (λ s. IsBehind first (exchanged c t) (λ x. 0) s) }
+    ensures behind { IfOk result (λ s. IsBehind first (exchanged c t) (λ x. 0) s) }
+    ensures others { IfOk result (λ s. OthersSame t first.outs s.outs) }
 {
     let PathSum {
         n,

@@ -1,16 +1,31 @@
 //! Sums with terms that are still to be added to their phase.
 
-ghost use Rattle.std.specs.Prelude.{◌≡◌, ℕ, ◌<◌, ◌≤◌, ◌+◌, ◌*◌, List, [], length, get_or, false, IfOk, IsTrue};
+ghost use Rattle.std.specs.Prelude.{◌≡◌, ℕ, ◌<◌, ◌≤◌, ◌+◌, ◌*◌, List, [], length, get_or, false, IfOk, IfErr, OnOk, IsTrue, true, Some, ◌++◌, pos, negsuc, ◌+ℤ◌, ◌≤ℤ◌};
 ghost use Rattle.ps_prim.specs.Amplitudes.{exchanged};
 ghost use Rattle.ps_phase.specs.Phases.{phase_occurs, IsPhasePoly};
 ghost use Rattle.ps_sum.specs.Forms.{IsPhasePoly-prop};
+ghost use Rattle.ps_sum.specs.Sums.{path_values};
+ghost use Rattle.ps_bool.specs.Polys.{occurs};
+ghost use Rattle.ps_mono.specs.Sets.{stands};
+ghost use Rattle.ps_prim.specs.declared.prims.Primitive.{Primitive as Prim};
+ghost use Rattle.ps_prim.specs.Sums.{Denotes};
 ghost use Rattle.ps_join.specs.Plainly.{IsBehind, IsAdded, IsNear};
+ghost use Rattle.ps_phase.specs.Adding.{add_terms};
+ghost use Rattle.ps_join.specs.Joining.{IsJoinOf, JoinFits};
+ghost use Rattle.ps_join.specs.OntoFaults.{IsOntoFault};
+ghost use Rattle.ps_join.specs.Changing.{AllShort};
 ghost use Rattle.ps_join.specs.Totals.{IsNamed};
+ghost use Rattle.ps_join.specs.Widening.{CanWiden, IsWidened};
 
 use super::gating::all_short;
+use super::joins::join_onto;
 use super::limits::MOST_VARIABLES;
+use super::naming::bool_support;
+use super::onto_fault::OntoFault;
 use super::plains::with_exchange;
+use super::putting::{Output, placed, stay_short};
 use ps_bool::BoolPoly;
+use ps_mono::Mono;
 use ps_phase::PhasePoly;
 use ps_sum::{Outputs, PathSum};
 use std::alloc::{AllocError, Global};
@@ -25,8 +40,10 @@ const FEW: u64 = 16;
 pub struct Running {
     sum: PathSum,
     more: PhasePoly,
+    short: bool,
     ghost form: { IsPhasePoly more } by { IsPhasePoly-prop more },
     ghost named: { IsNamed sum more },
+    ghost few: { short ≡ true → AllShort sum.outs },
 }
 
 impl Model for Running {
@@ -47,9 +64,11 @@ impl Running {
     pub fn of(alloc: Global, sum: PathSum) -> Running
         ensures { result ≡ sum }
     {
+        let short = all_short(sum.outs.polys());
         Running {
             sum,
             more: PhasePoly::zero(alloc),
+            short,
         }
     }
 
@@ -57,7 +76,7 @@ impl Running {
     pub fn settled(self) -> Result<PathSum, AllocError>
         ensures { IfOk result (λ s. s ≡ self) }
     {
-        let Running { sum, more } = self;
+        let Running { sum, more, .. } = self;
         if more.count() == 0 {
             return Ok(sum);
         }
@@ -94,11 +113,50 @@ impl Running {
         &self.sum.outs.polys()[q as usize]
     }
 
+    /// How many path variables.
+    pub fn path_variables(&self) -> u32
+        ensures { result ≡ self.now.m }
+    {
+        self.sum.m
+    }
+
+    /// The outputs.
+    pub fn outputs(&self) -> &[BoolPoly]
+        ensures { result.now ≡ self.now.outs }
+    {
+        self.sum.outs.polys()
+    }
+
+    /// The variables that stand in the output of a qubit.
+    pub fn variables(&self, q: u32) -> Mono
+        requires { q < length self.now.outs }
+        ensures { (v : ℕ) → stands v result ≡ occurs v (get_or self.now.outs q []) }
+    {
+        bool_support(self.output(q))
+    }
+
+    // The sum without the terms that wait.
+    pub(crate) fn bare(&self) -> &PathSum
+        ensures qubits { result.now.n ≡ self.now.n }
+        ensures paths { result.now.m ≡ self.now.m }
+        ensures scale { result.now.k ≡ self.now.k }
+        ensures outs { result.now.outs ≡ self.now.outs }
+    {
+        &self.sum
+    }
+
+    // Whether each output is short.
+    pub(crate) fn is_short(&self) -> bool
+        ensures { IsTrue result → AllShort self.now.outs }
+    {
+        self.short || all_short(self.sum.outs.polys())
+    }
+
     // Whether no limit is passed where a controlled not comes behind the sum.
     pub(crate) fn is_near(&self) -> bool
         ensures { IsTrue result → IsNear self.now }
     {
-        2 * self.sum.n + self.sum.m <= MOST_VARIABLES && all_short(self.sum.outs.polys())
+        2 * self.sum.n + self.sum.m <= MOST_VARIABLES && self.is_short()
     }
 
     // The sum with more terms in its phase.
@@ -106,10 +164,21 @@ impl Running {
         requires { IsNamed self more.now }
         ensures { IfOk result (λ s. IsAdded self more.now s) }
     {
-        let Running { sum, more: waiting } = self;
+        if more.count() == 0 {
+            return Ok(self);
+        }
+        let Running {
+            sum,
+            more: waiting,
+            short,
+        } = self;
         let mut waiting = waiting;
         waiting.add_to(more)?;
-        let next = Running { sum, more: waiting };
+        let next = Running {
+            sum,
+            more: waiting,
+            short,
+        };
         next.relieved(alloc)
     }
 
@@ -129,8 +198,79 @@ impl Running {
         requires target { t < length self.outs }
         ensures { IfOk result (λ s. IsBehind self (exchanged c t) (λ x. 0) s) }
     {
-        let Running { sum, more } = self;
+        let Running { sum, more, short } = self;
         let sum = with_exchange(sum, c, t)?;
-        Ok(Running { sum, more })
+        let short = stay_short(short, sum.outs.polys(), Some(t));
+        Ok(Running { sum, more, short })
+    }
+
+    // The sum with the path variables and the scale of the second beside its own, and with the output that
+    // changes behind it in its place.
+    pub(crate) fn widened(
+        self,
+        alloc: Global,
+        second: &PathSum,
+        output: Output,
+    ) -> Result<Running, AllocError>
+        requires { CanWiden self second.now output }
+        ensures { IfOk result (λ s. IsWidened self second.now output s) }
+    {
+        let Running { sum, more, short } = self;
+        let place = output.place();
+        let sum = widened(alloc, sum, second, output)?;
+        let short = stay_short(short, sum.outs.polys(), place);
+        Ok(Running { sum, more, short })
+    }
+}
+
+// The same of a sum alone.
+fn widened(
+    alloc: Global,
+    first: PathSum,
+    second: &PathSum,
+    output: Output,
+) -> Result<PathSum, AllocError>
+    requires { CanWiden first second.now output }
+    ensures { IfOk result (λ s. IsWidened first second.now output s) }
+{
+    let PathSum {
+        n,
+        m,
+        k,
+        phase,
+        outs,
+    } = first;
+    let outs = placed(alloc, outs.into_polys(), output)?;
+    Ok(PathSum {
+        n,
+        m: m + second.m,
+        k: k + second.k,
+        phase,
+        outs: Outputs::of(outs),
+    })
+}
+
+/// `join_onto` for a sum with terms that wait, which are taken in first.
+pub(crate) fn join_settled(
+    alloc: Global,
+    first: Running,
+    second: &PathSum,
+) -> Result<Running, OntoFault>
+    requires qubits { first.n ≡ second.now.n }
+    requires first_open { 0 < length first.outs }
+    requires second_open { 0 < length second.now.outs }
+    requires scaled { (negsuc 1999999999 ≤ℤ (first.k +ℤ second.now.k)) × ((first.k +ℤ second.now.k) ≤ℤ pos 2000000000) }
+    ensures sum { IfOk result (λ s. IsJoinOf first second.now s) }
+    ensures fits { OnOk result (JoinFits first second.now) }
+    ensures denotes { IfOk result (λ s. (A1 A2 : List Prim) → Denotes first.n (path_values first) A1 → Denotes first.n (path_values second.now) A2 → Denotes first.n (path_values s) (A1 ++ A2)) }
+    ensures wide { IfOk result (λ s. length s.outs ≡ first.n) }
+    ensures passed { IfErr result (λ e. IsOntoFault first second.now e) }
+{
+    let Ok(first) = first.settled() else {
+        return Err(OntoFault::Memory);
+    };
+    match join_onto(alloc, first, second) {
+        Ok(sum) => Ok(Running::of(alloc, sum)),
+        Err(fault) => Err(fault),
     }
 }

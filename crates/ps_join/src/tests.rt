@@ -79,21 +79,33 @@ fn ready(alloc: Global, sum: PathSum) -> Result<Gate, AllocError> {
     Ok(Gate::of(Arc::new(alloc, sum)?))
 }
 
-// A sum that is ready behind the first.
+// A sum that is ready behind the first, some of whose terms may wait.
+fn joined(
+    rt: &impl Abort,
+    alloc: Global,
+    first: Running,
+    second: &Gate,
+) -> Result<Running, JoinFault> {
+    let sum = first.bare();
+    assert!(rt; sum.n == second.sum.n);
+    assert!(rt; !sum.outs.polys().is_empty() && !second.sum.outs.polys().is_empty());
+    assert!(rt; sum.k > -1000 && sum.k < 1000 && second.sum.k > -1000 && second.sum.k < 1000);
+    match join_gate(alloc, first, second) {
+        Ok(sum) => Ok(sum),
+        Err(OntoFault::Passed { passed, .. }) => Err(JoinFault::Passed(passed)),
+        Err(OntoFault::Memory) => Err(JoinFault::Memory),
+    }
+}
+
+// The same, settled.
 fn gated(
     rt: &impl Abort,
     alloc: Global,
     first: PathSum,
     second: &Gate,
 ) -> Result<PathSum, JoinFault> {
-    assert!(rt; first.n == second.sum.n);
-    assert!(rt; !first.outs.polys().is_empty() && !second.sum.outs.polys().is_empty());
-    assert!(rt; first.k > -1000 && first.k < 1000 && second.sum.k > -1000 && second.sum.k < 1000);
-    match join_gate(alloc, first, second) {
-        Ok(sum) => Ok(sum),
-        Err(OntoFault::Passed { passed, .. }) => Err(JoinFault::Passed(passed)),
-        Err(OntoFault::Memory) => Err(JoinFault::Memory),
-    }
+    let sum = joined(rt, alloc, Running::of(alloc, first), second)?;
+    Ok(sum.settled()?)
 }
 
 // The sum of a Hadamard gate after one step: half a turn where x0 and y0 are 1, and the output y0.
@@ -116,6 +128,38 @@ fn joins(rt: HostRuntime) -> Result<(), Fail> {
     let first = behind(&rt, alloc, &half, &identity(alloc, 1)?)?;
     let gate = ready(alloc, half)?;
     assert!(rt; is_text(alloc, &gated(&rt, alloc, first, &gate)?, wanted)?);
+    Ok(())
+}
+
+// The sum that flips its one qubit.
+fn flip(rt: &impl Abort, alloc: Global) -> Result<PathSum, AllocError> {
+    let output = BoolPoly::var(alloc, 0)?.flipped()?;
+    let outs = Outputs::of(vec![in alloc; output]?);
+    Ok(PathSum::of(1, 0, 0, PhasePoly::zero(alloc), outs).expect(rt, "a sum"))
+}
+
+// A quarter turn and a flip, twice each, and a Hadamard gate.
+#[test]
+fn waiting(rt: HostRuntime) -> Result<(), Fail> {
+    let alloc = rt.alloc();
+    let turn = ready(alloc, leaf(alloc, &turned(0, 1 << 29, 0), 1)?)?;
+    let flip = ready(alloc, flip(&rt, alloc)?)?;
+    let half = ready(alloc, half(&rt, alloc)?)?;
+    assert!(rt; matches!(turn.change(), Change::Stay));
+    assert!(rt; matches!(flip.change(), Change::Flip { q: 0 }));
+    assert!(rt; matches!(half.change(), Change::Path { q: 0, y: 1 }));
+    let sum = Running::of(alloc, identity(alloc, 1)?);
+    let sum = joined(&rt, alloc, sum, &turn)?;
+    let sum = joined(&rt, alloc, sum, &flip)?;
+    let sum = joined(&rt, alloc, sum, &turn)?;
+    assert!(rt; sum.outputs().len() == 1 && sum.outputs()[0].count() == 2);
+    let sum = joined(&rt, alloc, sum, &flip)?;
+    let sum = joined(&rt, alloc, sum, &half)?;
+    assert!(rt; sum.path_variables() == 1);
+    assert!(rt; sum.outputs().len() == 1);
+    assert!(rt; sum.variables(0) == Mono::var(1));
+    let wanted = "k=1 m=1 P=1/4+1/2*x0.y0 f=y0";
+    assert!(rt; is_text(alloc, &sum.settled()?, wanted)?);
     Ok(())
 }
 
