@@ -28,16 +28,16 @@ unfolding key_behind
 behind_more [] k = omega arith
 behind_more (v ∷ m) k = omega (arith, behind_more m (k * 512 + v))
 
-less_nat : (x y : ℕ) → x < y → nat_cmp x y ≡ Less
+pub less_nat : (x y : ℕ) → x < y → nat_cmp x y ≡ Less
 less_nat x y h = grind (arith, nat_tests)
 
-more_nat : (x y : ℕ) → y < x → nat_cmp x y ≡ Greater
+pub more_nat : (x y : ℕ) → y < x → nat_cmp x y ≡ Greater
 more_nat x y h = grind (arith, nat_tests)
 
-same_nat : (x y : ℕ) → x ≡ y → nat_cmp x y ≡ Equal
+pub same_nat : (x y : ℕ) → x ≡ y → nat_cmp x y ≡ Equal
 same_nat x y h = grind (arith, nat_tests)
 
-one_of : (x y : ℕ) → (x < y) ⊎ ((y < x) ⊎ (x ≡ y))
+pub one_of : (x y : ℕ) → (x < y) ⊎ ((y < x) ⊎ (x ≡ y))
 one_of x y = first (cases_lt x y)
   where
     second : y ≤ x → ((y < x) ⊎ (x ≤ y)) → (x < y) ⊎ ((y < x) ⊎ (x ≡ y))

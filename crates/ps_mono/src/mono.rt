@@ -6,10 +6,10 @@ ghost use Rattle.std.proofs.Common.{refl};
 ghost use Rattle.ps_mono.specs.Orders.{mono_total, mono_ties, mono_partial_order};
 ghost use Rattle.std.proofs.lemmas.Cmp.{nat_list_eq_equiv};
 ghost use Rattle.ps_mono.specs.Sets.{stands, IsVarSet, mono_cmp, holds};
-ghost use Rattle.ps_mono.specs.Keys.{order_key};
+ghost use Rattle.ps_mono.specs.Keys.{order_key, low_key, IsLow};
 
 use super::bits::Bits;
-use super::keys::with_word;
+use super::keys::{mirrored, with_word};
 use super::select::nth_one;
 use super::words::{count_vars, joined_words};
 use std::alloc::{AllocError, Global};
@@ -274,6 +274,32 @@ impl Mono {
             key = with_word(key, self.words[i as usize], 64 * i);
         }
         key
+    }
+
+    /// Whether all variables are below 119, so that the monomial has a `low_key`.
+    #[inline]
+    pub fn is_low(&self) -> bool
+        ensures { IsTrue result ↔ IsLow self.now }
+    {
+        let second = self.words[1] >> 55;
+        let middle = self.words[2] | self.words[3] | self.words[4];
+        let last = self.words[5] | self.words[6] | self.words[7];
+        second | middle | last == 0
+    }
+
+    /// A number by which monomials of any degree are sorted whose variables all are below 119: it has the
+    /// degree, and behind it a bit for each of these variables, the lowest first, which is 0 where the
+    /// variable stands in the monomial. So of two such monomials the one that `compare` puts first has the
+    /// lower number, and only equal ones have the same.
+    #[inline]
+    pub fn low_key(&self) -> u128
+        requires { IsLow self.now }
+        ensures value { result ≡ low_key self.now }
+        ensures order { (m : List ℕ) → IsVarSet m → IsLow m → nat_cmp result (low_key m) ≡ mono_cmp self.now m }
+    {
+        let first = !mirrored(self.words[0]);
+        let second = !mirrored(self.words[1]) >> 9;
+        (u128::from(self.degree) << 119) + (u128::from(first) << 55) + u128::from(second)
     }
 
     /// Whether all variables of the monomial are true.

@@ -50,6 +50,39 @@ fn keys(rt: HostRuntime) -> Result<(), Fail> {
     Ok(())
 }
 
+fn low_key_of(mono: &Mono) -> Option<u128> {
+    if mono.is_low() {
+        Some(mono.low_key())
+    } else {
+        None
+    }
+}
+
+// Numbers by which monomials of low variables are sorted: x0 and x118 have the highest and the lowest
+// of 119 bits, and the degree stands above them.
+#[test]
+fn low_keys(rt: HostRuntime) -> Result<(), Fail> {
+    let none = (1u128 << 119) - 1;
+    let degree = 1u128 << 119;
+    let last = Mono::var(118);
+    let both = Mono::var(64).union(&Mono::var(3));
+    let word = Mono::var(0).union(&Mono::var(1)).union(&Mono::var(2));
+    let seven = word.union(&both).union(&last).union(&Mono::var(63));
+    assert_eq!(rt; low_key_of(&Mono::one()), Some(none));
+    assert_eq!(rt; low_key_of(&Mono::var(0)), Some(degree + none - (1 << 118)));
+    assert_eq!(rt; low_key_of(&last), Some(degree + none - 1));
+    assert_eq!(rt;
+        low_key_of(&both),
+        Some(2 * degree + none - (1 << 54) - (1 << 115))
+    );
+    assert_eq!(rt; low_key_of(&word), Some(3 * degree + none - (7 << 116)));
+    let ones = (15 << 115) + (1 << 55) + (1 << 54) + 1;
+    assert_eq!(rt; low_key_of(&seven), Some(7 * degree + none - ones));
+    assert_eq!(rt; low_key_of(&Mono::var(119)), None);
+    assert_eq!(rt; low_key_of(&Mono::var(511).union(&last)), None);
+    Ok(())
+}
+
 // The variables of several monomials together.
 #[test]
 fn supports(rt: HostRuntime) -> Result<(), Fail> {

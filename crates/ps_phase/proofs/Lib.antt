@@ -7,3 +7,4 @@ pub mod Absorbing
 pub mod Runs
 pub mod Weaves
 pub mod Keyed
+pub mod Seated

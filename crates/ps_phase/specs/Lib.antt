@@ -3,3 +3,4 @@ pub mod Adding
 pub mod Placing
 pub mod Weaving
 pub mod Short
+pub mod Seating

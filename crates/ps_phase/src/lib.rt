@@ -5,6 +5,8 @@ mod gathering;
 mod inplace;
 pub mod merging;
 pub mod poly;
+mod seating;
+mod seats;
 mod sorting;
 pub mod terms;
 mod weaving;

@@ -6,6 +6,7 @@ ghost use Rattle.ps_mono.specs.Sets.{stands};
 use super::gathering::{combine, is_ordered};
 use super::inplace::{absorb, fits};
 use super::merging::{added, push_term, scaled, selected};
+use super::seating::seated_sum;
 use super::sorting::sort_terms;
 use super::terms::Term;
 use super::weaving::weave;
@@ -61,9 +62,10 @@ impl PhasePoly {
     }
 
     /// The sum of terms in any order, of which several may have one monomial: they are sorted once,
-    /// unless they are in order already, and those of one monomial added. Many terms of at most six
-    /// variables each are sorted by keys, which take memory; where that is wanting, and else, they are
-    /// sorted in place. It always answers `Ok`.
+    /// unless they are in order already, and those of one monomial added. Of many terms with low variables
+    /// only numbers and places are sorted, and what is left of the terms is moved once; many others of at
+    /// most six variables each are sorted by keys. Both take memory; where that is wanting, and else, the
+    /// terms are sorted in place. It always answers `Ok`.
     pub fn gather(mut terms: Vec<Term>) -> Result<PhasePoly, AllocError>
         ensures value { IfOk result (λ p. SameTurns p terms.items) }
         ensures variables { IfOk result (λ p. (v : ℕ) → phase_occurs v p ≡ true → phase_occurs v terms.items ≡ true) }
@@ -71,6 +73,10 @@ impl PhasePoly {
     {
         if is_ordered(&terms) {
             return Ok(PhasePoly { terms });
+        }
+        match seated_sum(*terms.allocator(), &terms) {
+            Some(sum) => return Ok(PhasePoly { terms: sum }),
+            None => {}
         }
         sort_terms(&mut terms);
         combine(&mut terms);

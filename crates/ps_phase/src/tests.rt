@@ -57,3 +57,50 @@ fn looks(rt: HostRuntime) -> Result<(), Fail> {
     assert_eq!(rt; sum.count(), 1);
     Ok(())
 }
+
+// x9 to x0, x0 to x9, and products of x118 with x9, x9.x8, and so on, which are of up to eleven variables.
+fn many(alloc: Global) -> Result<Vec<Term>, AllocError> {
+    let mut terms = Vec::new(alloc);
+    let mut wide = Mono::var(118);
+    for v in 0..10u16 {
+        let last = Mono::var(9 - v);
+        wide = wide.union(&last);
+        terms.push(Term {
+            mono: wide,
+            phase: Phase::of(1 << 29),
+        })?;
+        terms.push(Term {
+            mono: last,
+            phase: Phase::of(1 << 29),
+        })?;
+        terms.push(Term {
+            mono: Mono::var(v),
+            phase: Phase::of(1 << 28),
+        })?;
+    }
+    terms.push(Term {
+        mono: wide,
+        phase: Phase::of(7 << 29),
+    })?;
+    Ok(terms)
+}
+
+// Of 31 terms each of x0 to x9 stands there twice, and the product of all cancels.
+#[test]
+fn gathers(rt: HostRuntime) -> Result<(), Fail> {
+    let alloc = rt.alloc();
+    let sum = PhasePoly::gather(many(alloc)?)?;
+    assert_eq!(rt; sum.count(), 19);
+    let (first, phase) = sum.term(0);
+    assert!(rt; *first == Mono::var(0));
+    assert_eq!(rt; phase.units(), 3 << 28);
+    let pair = Mono::var(118).union(&Mono::var(9));
+    let (eleventh, eighth) = sum.term(10);
+    assert!(rt; *eleventh == pair);
+    assert_eq!(rt; eighth.units(), 1 << 29);
+    assert_eq!(rt; sum.coefficient(&Mono::var(7)).units(), 3 << 28);
+    let (last, _) = sum.term(18);
+    assert_eq!(rt; last.degree(), 10);
+    assert!(rt; !last.contains(0));
+    Ok(())
+}
