@@ -2,7 +2,7 @@
 use Rattle.std.proofs.Common.{◌≡◌, ◌≢◌, ℕ, zero, suc, ◌+◌, ◌-◌, ◌%◌, refl, ap, ap₂, sym, ◌∙◌, subst, arith, ◌<◌, ◌≤◌, Bool, true, false, List, [], ◌∷◌, ◌++◌, length, take, drop, get_or, set, length-append, Less, Equal, Greater, ◌⊎◌, inl, inr, ◌||◌, Result, Ok, Err, OnOk, OnErr}
 use Rattle.std.proofs.lemmas.Bool.{cases_lt}
 use Rattle.std.proofs.Math.Seq.{take-append_seam, take-length}
-use Rattle.std.proofs.lemmas.List.{get_or-take, take-set-le, drop-set, length-set, take_all, get_or_default}
+use Rattle.std.proofs.lemmas.List.{get_or-take, get_or-drop, take-set-le, drop-set, length-set, length-take-le, length-drop, take_all, get_or_default, append_assoc, take-append-drop, take-append-le, drop-take, drop_at}
 use Rattle.ps_phase.specs.declared.terms.Term.{Term}
 use Rattle.ps_mono.specs.Sets.{mono_cmp, holds}
 use Rattle.ps_mono.specs.Truth.{times}
@@ -188,6 +188,68 @@ wove_none xs ys i j w i' j' u x y ts ei ej ex ey same eu nu s =
     nothing true p q = omega arith
     nothing false p q = omega arith
 
+-- ---- many steps at once
+drop_form : (ts : List Term) (k : ℕ) → IsPhasePoly ts → IsPhasePoly (drop k ts)
+drop_form ts zero f = f
+drop_form [] (suc k) f = tt
+drop_form (t ∷ ts) (suc k) f = drop_form ts k f.2
+
+before_each : (m : List ℕ) (ts : List Term) (d : Term) → ((k : ℕ) → k < length ts → mono_cmp m (get_or ts k d).mono ≡ Less) → TermBefore m ts
+before_each m [] d h = tt
+before_each m (t ∷ ts) d h = (h 0 (omega arith), before_each m ts d (λ k n. h (suc k) (omega arith)))
+
+-- those of the first i terms from place l on
+block : (xs : List Term) (i l k : ℕ) (d : Term) → l ≤ i → i ≤ length xs → k < length (drop l (take i xs)) → (l + k < i) × (get_or (drop l (take i xs)) k d ≡ get_or xs (l + k) d)
+block xs i l k d h w n =
+    let size : length (drop l (take i xs)) ≡ i - l = length-drop l (take i xs) ∙ ap (λ x. x - l) (length-take-le i xs w) in
+    let low : l + k < i = omega (arith, size, n) in
+    (low, get_or-drop l (take i xs) k d ∙ get_or-take i xs (l + k) d low)
+
+-- every term from place l on comes after m where the one there does
+from_there : (xs : List Term) (d : Term) (l k : ℕ) (m : List ℕ) → IsPhasePoly xs → l ≤ k → k < length xs → mono_cmp m (get_or xs l d).mono ≡ Less → mono_cmp m (get_or xs k d).mono ≡ Less
+from_there xs d l k m f h w c = by (cases_lt l k)
+  where
+    by : ((l < k) ⊎ (k ≤ l)) → mono_cmp m (get_or xs k d).mono ≡ Less
+    by (inl n) = mono_total.trans m (get_or xs l d).mono (get_or xs k d).mono c (order_at xs d l k f n w)
+    by (inr n) = let e : l ≡ k = omega arith in ap (λ x. mono_cmp m (get_or xs x d).mono) (sym e) ∙ c
+
+-- what is left, in two parts
+halves : (xs : List Term) (i l : ℕ) (a : ℕ → Bool) → l ≤ i → phase_value (take i xs) a ≡ phase_value (take l xs) a + phase_value (drop l (take i xs)) a
+halves xs i l a h =
+    ap (λ (us : List Term). phase_value us a) (sym (take-append-drop l (take i xs)) ∙ ap (λ (us : List Term). us ++ drop l (take i xs)) (take_take l i xs h))
+    ∙ phase_append (take l xs) (drop l (take i xs)) a
+
+-- the terms that are left from place l on before those in place, where none of the second comes after the first of them
+wove_passed : (xs ys : List Term) (i j w l w' : ℕ) (y : Term) (ts ts' : List Term) → IsPhasePoly xs → IsPhasePoly ys → l ≤ i → w ≡ w' + (i - l) → 0 < j → ((d : Term) → y ≡ get_or ys (j - 1) d) → ((d : Term) → l < i → mono_cmp y.mono (get_or xs l d).mono ≡ Less)
+    → take l ts' ≡ take l ts → drop w' ts' ≡ drop l (take i ts) ++ drop w ts → length ts' ≡ length ts → Weaving xs ys i j w ts → Weaving xs ys l j w' ts'
+wove_passed xs ys i j w l w' y ts ts' fx fy hl ew hj ey low front back size s =
+    let B : List Term = drop l (take i xs) in
+    let rest : drop w' ts' ≡ B ++ drop w ts = back ∙ ap (λ (us : List Term). drop l us ++ drop w ts) s.front in
+    let d0 : Term = record { mono = []; phase = 0 } in record {
+      inside_first = omega (arith, s.inside_first, hl);
+      inside_second = s.inside_second;
+      room = omega (arith, s.room, ew, hl);
+      within = omega (arith, s.within, ew, size);
+      front = front ∙ sym (take_take l i ts hl) ∙ ap (take l) s.front ∙ take_take l i xs hl;
+      form = subst IsPhasePoly (sym rest) (append_form B (drop w ts) d0 (drop_form (take i xs) l (take_form xs i fx)) s.form (λ k h.
+          let at = block xs i l k d0 hl s.inside_first h in subst (λ (t : Term). TermBefore t.mono (drop w ts)) (sym at.1) (s.first_before d0 (l + k) at.0)));
+      first_before = λ d k h. subst (λ (us : List Term). TermBefore (get_or xs k d).mono us) (sym rest) (append_before (get_or xs k d).mono B (drop w ts)
+          (before_each (get_or xs k d).mono B d (λ n g. let at = block xs i l n d hl s.inside_first g in ap (λ (t : Term). mono_cmp (get_or xs k d).mono t.mono) at.1 ∙ order_at xs d k (l + n) fx (omega (arith, h)) (omega (arith, at.0, s.inside_first))))
+          (s.first_before d k (omega (arith, h, hl))));
+      second_before = λ d k h. subst (λ (us : List Term). TermBefore (get_or ys k d).mono us) (sym rest) (append_before (get_or ys k d).mono B (drop w ts)
+          (before_each (get_or ys k d).mono B d (λ n g. let at = block xs i l n d hl s.inside_first g in ap (λ (t : Term). mono_cmp (get_or ys k d).mono t.mono) at.1
+          ∙ from_there xs d l (l + n) (get_or ys k d).mono fx (omega arith) (omega (arith, at.0, s.inside_first)) (all_before ys d k (j - 1) (get_or xs l d).mono fy (omega (arith, hj, s.inside_second)) (ap (λ (t : Term). mono_cmp t.mono (get_or xs l d).mono) (sym (ey d)) ∙ low d (omega (arith, at.0))) (omega (arith, h)))))
+          (s.second_before d k h));
+      value = λ a.
+          ap (λ (us : List Term). (phase_value (take l xs) a + (phase_value (take j ys) a + phase_value us a)) % 4294967296) rest
+          ∙ ap (λ n. (phase_value (take l xs) a + (phase_value (take j ys) a + n)) % 4294967296) (phase_append B (drop w ts) a)
+          ∙ ap (λ n. n % 4294967296) (across (phase_value (take l xs) a) (phase_value (take j ys) a) (phase_value B a) (phase_value (drop w ts) a))
+          ∙ ap (λ n. (n + (phase_value (take j ys) a + phase_value (drop w ts) a)) % 4294967296) (sym (halves xs i l a hl)) ∙ s.value a;
+    }
+  where
+    across : (p q b r : ℕ) → p + (q + (b + r)) ≡ p + b + (q + r)
+    across p q b r = omega arith
+
 -- ---- the first step and the last
 pub weaving_start : (xs ys ts : List Term) (n m : ℕ) → n ≡ length xs → m ≡ length ys → ts ≡ xs ++ ys → Weaving xs ys n m (n + m) ts
 unfolding phase_value
@@ -266,6 +328,30 @@ step_moved xs ys left more from l m f x y ts us el em ef pos eu fx fy ex ey c s 
       subst (λ (k : ℕ). Weaving xs ys l k f us) (sym em) (wove_moved xs ys left more from l (more - 1) f x y ts us fx fy (sym el) (omega arith) (sym ef) (ex ∙ ap (λ k. get_or ts k x) last) ey (mono_flip x.mono y.mono (sym c)) eu s),
       omega arith,
     )
+
+-- the terms that are left from place l on, in front of those in place
+pub step_passed : (xs ys : List Term) (left more from l k m f : ℕ) (y : Term) (ts us : List Term) → k ≤ left → l ≡ k → m ≡ more → f + (left - k) ≡ from → 0 < more → us ≡ take f ts ++ take (left - k) (drop k ts) ++ drop from ts → IsPhasePoly xs → IsPhasePoly ys → ((d : Term) → y ≡ get_or ys (more - 1) d) → ((d : Term) → k < left → mono_cmp y.mono (get_or ts k d).mono ≡ Less) → Weaving xs ys left more from ts → Weaving xs ys l m f us
+step_passed xs ys left more from l k m f y ts us hk el em ef hj eu fx fy ey low s =
+    let n : ℕ = left - k in
+    let end : k + n ≡ left = omega (arith, hk) in
+    let B : List Term = take n (drop k ts) in
+    let same : B ≡ drop k (take left ts) = sym (drop-take k n ts) ∙ ap (λ x. drop k (take x ts)) end in
+    let wide : left ≤ length ts = omega (arith, s.room, s.within) in
+    let short : length B ≡ n = length-take-le n (drop k ts) (omega (arith, length-drop k ts, wide, end)) in
+    let far : length (take f ts) ≡ f = length-take-le f ts (omega (arith, s.within, ef)) in
+    let joined : us ≡ take f ts ++ (B ++ drop from ts) = eu ∙ append_assoc (take f ts) B (drop from ts) in
+    let size : length us ≡ length ts =
+    ap length joined ∙ length-append (take f ts) (B ++ drop from ts) ∙ ap₂ (λ (x y : ℕ). x + y) far (length-append B (drop from ts) ∙ ap₂ (λ (x y : ℕ). x + y) short (length-drop from ts)) ∙ whole f n from (length ts) ef s.within in
+    let front : take k us ≡ take k ts = ap (take k) joined ∙ take-append-le k (take f ts) (B ++ drop from ts) (omega (arith, far, s.room, ef, hk)) ∙ take_take k f ts (omega (arith, s.room, ef, hk)) in
+    let back : drop f us ≡ drop k (take left ts) ++ drop from ts = ap (drop f) joined ∙ drop_at (take f ts) (B ++ drop from ts) f far ∙ ap (λ (vs : List Term). vs ++ drop from ts) same in
+    subst (λ (x : ℕ). Weaving xs ys x m f us) (sym el) (subst (λ (x : ℕ). Weaving xs ys k x f us) (sym em)
+    (wove_passed xs ys left more from k f y ts us fx fy hk (sym ef) hj ey (λ d h. ap (λ (t : Term). mono_cmp y.mono t.mono) (there d h) ∙ low d h) front back size s))
+  where
+    there : (d : Term) → k < left → get_or xs k d ≡ get_or ts k d
+    there d h = sym (get_or-take left xs k d h) ∙ ap (λ (vs : List Term). get_or vs k d) (sym s.front) ∙ get_or-take left ts k d h
+
+    whole : (f n from size : ℕ) → f + n ≡ from → from ≤ size → f + (n + (size - from)) ≡ size
+    whole f n from size e h = omega arith
 
 -- the last of the terms that are left has y's monomial
 pub front_same : (ts : List Term) (left : ℕ) (x : Term) (u : List ℕ) → left ≢ 0 → left ≤ length ts → x ≡ get_or ts (left - 1) x → Equal ≡ mono_cmp x.mono u → (d : Term) → (get_or ts (left - 1) d).mono ≡ u

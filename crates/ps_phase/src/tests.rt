@@ -104,3 +104,50 @@ fn gathers(rt: HostRuntime) -> Result<(), Fail> {
     assert!(rt; !last.contains(0));
     Ok(())
 }
+
+// The variables from 10 to 58 without 30, each once by the least phase.
+fn spread(alloc: Global) -> Result<PhasePoly, AllocError> {
+    let mut terms = Vec::new(alloc);
+    for v in 10..59u16 {
+        if v != 30 {
+            terms.push(Term {
+                mono: Mono::var(v),
+                phase: Phase::of(1),
+            })?;
+        }
+    }
+    PhasePoly::gather(terms)
+}
+
+// Whether two terms that are added to many in their memory give so many, and the same as beside them.
+fn comes_to(
+    alloc: Global,
+    first: &PhasePoly,
+    second: &PhasePoly,
+    count: u64,
+) -> Result<bool, AllocError> {
+    let few = first.add(second)?;
+    let many = spread(alloc)?;
+    let mut sum = many.copy()?;
+    sum.add_to(&few)?;
+    Ok(sum.count() == count && sum.same(&many.add(&few)?))
+}
+
+// Two terms among 48: before all, between them, behind all, on one of them, and against one.
+#[test]
+fn few_to_many(rt: HostRuntime) -> Result<(), Fail> {
+    let alloc = rt.alloc();
+    let front = PhasePoly::constant(alloc, Phase::of(1))?;
+    let middle = turn(alloc, &Mono::var(30), 1)?;
+    let behind = turn(alloc, &Mono::var(0).union(&Mono::var(1)), 1)?;
+    let on = turn(alloc, &Mono::var(20), 1)?;
+    let against = turn(alloc, &Mono::var(40), u32::MAX)?;
+    let against_first = turn(alloc, &Mono::var(10), u32::MAX)?;
+    let against_last = turn(alloc, &Mono::var(58), u32::MAX)?;
+    assert!(rt; comes_to(alloc, &front, &behind, 50)?);
+    assert!(rt; comes_to(alloc, &middle, &on, 49)?);
+    assert!(rt; comes_to(alloc, &against, &behind, 48)?);
+    assert!(rt; comes_to(alloc, &front, &against_first, 48)?);
+    assert!(rt; comes_to(alloc, &against_first, &against_last, 46)?);
+    Ok(())
+}

@@ -1,12 +1,19 @@
-ghost use Rattle.std.specs.Prelude.{set, ◌≡◌, ◌+◌, ◌-◌, ◌<◌, ◌≤◌, List, length, get_or, take, drop, ◌++◌, OnOk, OnErr};
+ghost use Rattle.std.specs.Prelude.{set, ◌≡◌, ◌+◌, ◌-◌, ◌<◌, ◌≤◌, List, length, get_or, take, drop, ◌++◌, OnOk, OnErr, IsTrue};
+ghost use Rattle.std.specs.declared.cmp.Ordering.TheVariants.{Less};
+ghost use Rattle.ps_mono.specs.Sets.{mono_cmp};
 ghost use Rattle.ps_phase.specs.declared.terms.Term.{Term};
 ghost use Rattle.ps_phase.specs.Phases.{IsPhasePoly};
 ghost use Rattle.ps_phase.specs.Adding.{add_terms};
 ghost use Rattle.ps_phase.specs.Weaving.{Weaving};
 
 use super::terms::Term;
+use ps_mono::Mono;
 use std::alloc::AllocError;
 use std::cmp::Ordering;
+
+// Where there is less than one of the others for so many terms, the terms between two of them are
+// passed all at once.
+const FEW: usize = 8;
 
 // How far two lists have been woven into one, from their ends on: how many terms of each are left, and
 // where the terms begin that are in place.
@@ -26,6 +33,7 @@ pub(crate) fn weave(terms: &mut Vec<Term>, others: &[Term]) -> Result<(), AllocE
     ensures kept { OnErr result (terms.new.items ≡ terms.old.items) }
 {
     let left = terms.len();
+    let few = others.len() < left / FEW;
     match terms.extend_from_slice(others) {
         Ok(()) => {}
         Err(fault) => return Err(fault),
@@ -36,10 +44,106 @@ pub(crate) fn weave(terms: &mut Vec<Term>, others: &[Term]) -> Result<(), AllocE
         from: left + others.len(),
     };
     while place.more > 0 {
-        place = woven(terms, place, &others[place.more - 1]);
+        let other = &others[place.more - 1];
+        place = leapt(terms, place, other, few);
+        place = woven(terms, place, other);
     }
     close(terms, place.left, place.from);
     Ok(())
+}
+
+// Where the others are few, the terms that are left and come after the other one, in front of those in
+// place.
+fn leapt(terms: &mut Vec<Term>, place: Place, other: &Term, few: bool) -> Place
+    requires more { 0 < place.more }
+    requires left { place.left + place.more ≤ place.from }
+    requires room { place.from ≤ length terms.old.items }
+    ensures more { result.more ≡ place.more }
+    ensures fewer { result.left ≤ place.left }
+    ensures left { result.left + result.more ≤ result.from }
+    ensures room { result.from ≤ length terms.new.items }
+    ensures weaving { (xs ys : List Term) → IsPhasePoly xs → IsPhasePoly ys → ((d : Term) → other.now ≡ get_or ys (place.more - 1) d) → Weaving xs ys place.left place.more place.from terms.old.items
+        → Weaving xs ys result.left result.more result.from terms.new.items }
+{
+    if !few {
+        return place;
+    }
+    let first = first_after(terms, place.left, &other.mono);
+    passed(terms, place, first)
+}
+
+// A place with no term from there on among the first few that does not come after the monomial: it is
+// looked for in steps back from their end that double, and then by halves.
+fn first_after(terms: &[Term], left: usize, mono: &Mono) -> usize
+    requires { left ≤ length terms.now }
+    ensures within { result ≤ left }
+    ensures after { (d : Term) → result < left → mono_cmp mono.now (get_or terms.now result d).mono ≡ Less }
+{
+    let high = leap(terms, left, mono);
+    let low = high.saturating_sub(left - high);
+    halved(terms, low, high, mono)
+}
+
+// The last of the places that it comes to in steps that double at which the term comes after the
+// monomial, and the end where there is none.
+fn leap(terms: &[Term], left: usize, mono: &Mono) -> usize
+    requires { left ≤ length terms.now }
+    ensures within { result ≤ left }
+    ensures after { (d : Term) → result < left → mono_cmp mono.now (get_or terms.now result d).mono ≡ Less }
+{
+    let mut high = left;
+    while left - high < high {
+        let place = high - (left - high) - 1;
+        if !is_after(&terms[place], mono) {
+            return high;
+        }
+        high = place;
+    }
+    high
+}
+
+// A place between two at which the term comes after the monomial, and the upper one where there is none.
+fn halved(terms: &[Term], low: usize, high: usize, mono: &Mono) -> usize
+    requires { high ≤ length terms.now }
+    ensures within { result ≤ high }
+    ensures after { (d : Term) → result < high → mono_cmp mono.now (get_or terms.now result d).mono ≡ Less }
+{
+    let mut from = low;
+    let mut to = high;
+    while from < to {
+        let middle = from + (to - from) / 2;
+        if is_after(&terms[middle], mono) {
+            to = middle;
+        } else {
+            from = middle + 1;
+        }
+    }
+    to
+}
+
+fn is_after(term: &Term, mono: &Mono) -> bool
+    ensures { IsTrue result → mono_cmp mono.now term.now.mono ≡ Less }
+{
+    mono.compare(&term.mono).is_lt()
+}
+
+// The terms that are left from a place on, in front of those in place.
+fn passed(terms: &mut Vec<Term>, place: Place, first: usize) -> Place
+    requires first { first ≤ place.left }
+    requires left { place.left + place.more ≤ place.from }
+    requires room { place.from ≤ length terms.old.items }
+    ensures left { result.left ≡ first }
+    ensures more { result.more ≡ place.more }
+    ensures from { result.from + (place.left - first) ≡ place.from }
+    ensures terms { terms.new.items ≡ take result.from terms.old.items ++ take (place.left - first) (drop first terms.old.items) ++ drop place.from terms.old.items }
+{
+    let from = place.from - (place.left - first);
+    terms.copy_within(first..place.left, from);
+    Place {
+        left: first,
+        more: place.more,
+        from,
+    }
 }
 
 // One step: the later one of the last term that is left and the last other one goes in front of those
