@@ -1,5 +1,5 @@
 -- Behind a sum that no step reduces, a gate that changes one output leaves few variables at which a step may apply: those of the output that it puts away.
-use Rattle.std.proofs.Common.{◌≡◌, ◌≢◌, ℕ, zero, suc, ◌+◌, ◌%◌, ◌≤◌, ◌<◌, refl, ap, ap₂, sym, ◌∙◌, subst, arith, Bool, true, false, cond, nat_eq, ◌||◌, List, [], ◌∷◌, ◌++◌, length, get_or, get_or-append-add, ◌⊎◌, inl, inr, Option, Some, None}
+use Rattle.std.proofs.Common.{◌≡◌, ◌≢◌, ℕ, zero, suc, ◌+◌, ◌%◌, ◌≤◌, ◌<◌, refl, ap, ap₂, sym, ◌∙◌, subst, arith, Bool, true, false, cond, ◌||◌, List, [], ◌∷◌, ◌++◌, length, get_or, get_or-append-add, ◌⊎◌, inl, inr, Option, Some, None}
 use Rattle.std.specs.Prelude.{IfSome}
 use Rattle.std.proofs.Math.ListN.{get_or-append}
 use Rattle.std.proofs.lemmas.Bool.{cases_lt, cases_eq}
@@ -9,29 +9,28 @@ use Rattle.ps_mono.specs.Sets.{stands, holds}
 use Rattle.ps_mono.specs.Lists.{nat_eq_same, nat_eq_other}
 use Rattle.ps_mono.specs.Truth.{differ, with_value}
 use Rattle.ps_bool.specs.Polys.{bool_value, occurs, IsPoly}
-use Rattle.ps_bool.proofs.Laws.{bool_value-var, bool_value-with_value}
+use Rattle.ps_bool.proofs.Laws.{bool_value-var}
 use Rattle.ps_phase.specs.Phases.{phase_value}
 use Rattle.ps_phase.specs.Adding.{terms_with}
 use Rattle.ps_phase.proofs.Adding.{no_or}
 use Rattle.ps_sum.specs.declared.sums.PathSum.{PathSum}
 use Rattle.ps_sum.specs.Forms.{AllPolys}
 use Rattle.ps_sum.specs.Outs.{values, outs_occur}
-use Rattle.ps_sum.specs.Sums.{path_values}
 use Rattle.ps_sum.proofs.Closings.{length_values}
 use Rattle.ps_sum.proofs.Uniqueness.{taken_length, taken_apart, phase_read}
 use Rattle.ps_rules.specs.declared.steps.Step.{Step}
-use Rattle.ps_rules.specs.Rules.{IsInner, Applies, IsIrreducible, first_of}
-use Rattle.ps_rules.specs.Sights.{NoneAt}
+use Rattle.ps_rules.specs.Rules.{IsInner, IsIrreducible}
+use Rattle.ps_rules.proofs.Suspects.{spoken_irreducible}
 use Rattle.ps_join.specs.declared.changes.Change.{Change}
 use Rattle.ps_join.specs.declared.changes.Change.TheVariants.{Stay, Path, Flip, More}
-use Rattle.ps_join.specs.Changing.{IsChange, OneIs}
+use Rattle.ps_join.specs.Changing.{IsChange}
 use Rattle.ps_join.specs.Joining.{IsJoinOf}
 use Rattle.ps_join.proofs.Outputs.{get_value, get_free, own_stands}
 use Rattle.ps_reach.specs.Reductions.{normal, ReducesTo}
 use Rattle.ps_normal.proofs.Floors.{reached_start}
 use Rattle.ps_normal.specs.Pieces.{Joinable}
 use Rattle.ps_normal.specs.Suspecting.{NoneBeside, AreSuspects}
-use Rattle.ps_normal.proofs.Plains.{QuietAt, quiet_none, off, inner_of, same_with, unread, outs_same, outs_read, moved_phase}
+use Rattle.ps_normal.proofs.Plains.{quiet_none, off, inner_of, same_with, unread, outs_same, outs_read, moved_phase}
 
 -- ---- the join by its values at an assignment of all variables
 -- what the second sum is read at
@@ -231,15 +230,8 @@ beside_joined S L T None i j h = tt
 beside_joined S L T (Some m) i j h = h i T j
 
 -- ---- where each of them stands in an output
-spoken_still : (S : PathSum) (m : List ℕ) → NoneBeside S m → ((v : ℕ) → S.n ≤ v → stands v m ≡ true → outs_occur v S.outs ≡ true) → IsIrreducible S
-spoken_still S m h spoken s a = by (stands (S.n + first_of s) m) refl
-  where
-    by : (b : Bool) → stands (S.n + first_of s) m ≡ b → ⊥
-    by true e = off (spoken (S.n + first_of s) (omega arith) e) (inner_of S s a).silent
-    by false e = h (first_of s) e s refl a
-
 pub spoken_ended : (S : PathSum) (outs : List (List (List ℕ))) (n : ℕ) (ss : List Step) (m : List ℕ) → outs ≡ S.outs → n ≡ S.n → ss ≡ [] → NoneBeside S m → ((v : ℕ) → n ≤ v → stands v m ≡ true → outs_occur v outs ≡ true) → ReducesTo S ss (normal S)
 spoken_ended S outs n ss m o e z h spoken = record {
   taken = reached_start S ss z;
-  ended = spoken_still S m h (λ v l t. ap (outs_occur v) (sym o) ∙ spoken v (omega (arith, e, l)) t);
+  ended = spoken_irreducible S m h (λ v l t. ap (outs_occur v) (sym o) ∙ spoken v (omega (arith, e, l)) t);
 }
