@@ -35,7 +35,8 @@ use std::marker::Model;
 const FEW: u64 = 16;
 
 /// A path sum, and terms that are still to be added to its phase, so that those of several gates are
-/// taken in together. Clauses see the sum with them.
+/// taken in together. Clauses see the sum with them. Whether each output is known to be short is kept
+/// beside it.
 #[derive(Drop)]
 pub struct Running {
     sum: PathSum,
@@ -160,25 +161,17 @@ impl Running {
     }
 
     // The sum with more terms in its phase.
-    pub(crate) fn added(self, alloc: Global, more: &PhasePoly) -> Result<Running, AllocError>
-        requires { IsNamed self more.now }
-        ensures { IfOk result (λ s. IsAdded self more.now s) }
+    pub(crate) fn added(self, alloc: Global, terms: &PhasePoly) -> Result<Running, AllocError>
+        requires { IsNamed self terms.now }
+        ensures { IfOk result (λ s. IsAdded self terms.now s) }
     {
-        if more.count() == 0 {
+        if terms.count() == 0 {
             return Ok(self);
         }
-        let Running {
-            sum,
-            more: waiting,
-            short,
-        } = self;
-        let mut waiting = waiting;
-        waiting.add_to(more)?;
-        let next = Running {
-            sum,
-            more: waiting,
-            short,
-        };
+        let Running { sum, more, short } = self;
+        let mut more = more;
+        more.add_to(terms)?;
+        let next = Running { sum, more, short };
         next.relieved(alloc)
     }
 
