@@ -1,16 +1,15 @@
 //! Sums with terms that are still to be added to their phase.
 
-ghost use Rattle.std.specs.Prelude.{◌≡◌, ℕ, ◌<◌, ◌≤◌, ◌+◌, ◌*◌, List, [], length, get_or, false, IfOk, IfErr, OnOk, IsTrue, true, Some, ◌++◌, pos, negsuc, ◌+ℤ◌, ◌≤ℤ◌};
-ghost use Rattle.ps_prim.specs.Amplitudes.{exchanged};
-ghost use Rattle.ps_phase.specs.Phases.{phase_occurs, IsPhasePoly};
-ghost use Rattle.ps_sum.specs.Forms.{IsPhasePoly-prop};
-ghost use Rattle.ps_sum.specs.Sums.{path_values};
-ghost use Rattle.ps_bool.specs.Polys.{occurs};
+ghost use Rattle.std.specs.Prelude.{◌≡◌, ℕ, ◌<◌, ◌≤◌, ◌+◌, ◌*◌, List, [], length, get_or, IfOk, IfErr, OnOk, IsTrue, true, Some, ◌++◌, pos, negsuc, ◌+ℤ◌, ◌≤ℤ◌};
 ghost use Rattle.ps_mono.specs.Sets.{stands};
+ghost use Rattle.ps_prim.specs.Amplitudes.{exchanged};
 ghost use Rattle.ps_prim.specs.declared.prims.Primitive.{Primitive as Prim};
 ghost use Rattle.ps_prim.specs.Sums.{Denotes};
+ghost use Rattle.ps_bool.specs.Polys.{occurs};
+ghost use Rattle.ps_phase.specs.Phases.{IsPhasePoly};
+ghost use Rattle.ps_sum.specs.Forms.{IsPhasePoly-prop};
+ghost use Rattle.ps_sum.specs.Sums.{path_values};
 ghost use Rattle.ps_join.specs.Plainly.{IsBehind, IsAdded, IsNear};
-ghost use Rattle.ps_phase.specs.Adding.{add_terms};
 ghost use Rattle.ps_join.specs.Joining.{IsJoinOf, JoinFits};
 ghost use Rattle.ps_join.specs.OntoFaults.{IsOntoFault};
 ghost use Rattle.ps_join.specs.Changing.{AllShort};
