@@ -175,7 +175,7 @@ fn gated(
 }
 
 /// `join_onto` for a sum that is ready. Where it changes at most one output and its phase has at most
-/// one input, as with primitive gates, the other outputs are only looked at, and its terms wait.
+/// one input, as with primitive gates, the other outputs stay where they are, and its terms wait.
 pub fn join_gate(alloc: Global, first: Running, gate: &Gate) -> Result<Running, OntoFault>
     requires qubits { first.n ≡ gate.now.sum.value.n }
     requires first_open { 0 < length first.outs }

@@ -1,16 +1,15 @@
 //! Sums with terms that are still to be added to their phase.
 
-ghost use Rattle.std.specs.Prelude.{◌≡◌, ℕ, ◌<◌, ◌≤◌, ◌+◌, ◌*◌, List, [], length, get_or, false, IfOk, IfErr, OnOk, IsTrue, true, Some, ◌++◌, pos, negsuc, ◌+ℤ◌, ◌≤ℤ◌};
-ghost use Rattle.ps_prim.specs.Amplitudes.{exchanged};
-ghost use Rattle.ps_phase.specs.Phases.{phase_occurs, IsPhasePoly};
-ghost use Rattle.ps_sum.specs.Forms.{IsPhasePoly-prop};
-ghost use Rattle.ps_sum.specs.Sums.{path_values};
-ghost use Rattle.ps_bool.specs.Polys.{occurs};
+ghost use Rattle.std.specs.Prelude.{◌≡◌, ℕ, ◌<◌, ◌≤◌, ◌+◌, ◌*◌, List, [], length, get_or, IfOk, IfErr, OnOk, IsTrue, true, Some, ◌++◌, pos, negsuc, ◌+ℤ◌, ◌≤ℤ◌};
 ghost use Rattle.ps_mono.specs.Sets.{stands};
+ghost use Rattle.ps_prim.specs.Amplitudes.{exchanged};
 ghost use Rattle.ps_prim.specs.declared.prims.Primitive.{Primitive as Prim};
 ghost use Rattle.ps_prim.specs.Sums.{Denotes};
+ghost use Rattle.ps_bool.specs.Polys.{occurs};
+ghost use Rattle.ps_phase.specs.Phases.{IsPhasePoly};
+ghost use Rattle.ps_sum.specs.Forms.{IsPhasePoly-prop};
+ghost use Rattle.ps_sum.specs.Sums.{path_values};
 ghost use Rattle.ps_join.specs.Plainly.{IsBehind, IsAdded, IsNear};
-ghost use Rattle.ps_phase.specs.Adding.{add_terms};
 ghost use Rattle.ps_join.specs.Joining.{IsJoinOf, JoinFits};
 ghost use Rattle.ps_join.specs.OntoFaults.{IsOntoFault};
 ghost use Rattle.ps_join.specs.Changing.{AllShort};
@@ -35,7 +34,8 @@ use std::marker::Model;
 const FEW: u64 = 16;
 
 /// A path sum, and terms that are still to be added to its phase, so that those of several gates are
-/// taken in together. Clauses see the sum with them.
+/// taken in together. Clauses see the sum with them. Whether each output is known to be short is kept
+/// beside it.
 #[derive(Drop)]
 pub struct Running {
     sum: PathSum,
@@ -160,25 +160,17 @@ impl Running {
     }
 
     // The sum with more terms in its phase.
-    pub(crate) fn added(self, alloc: Global, more: &PhasePoly) -> Result<Running, AllocError>
-        requires { IsNamed self more.now }
-        ensures { IfOk result (λ s. IsAdded self more.now s) }
+    pub(crate) fn added(self, alloc: Global, terms: &PhasePoly) -> Result<Running, AllocError>
+        requires { IsNamed self terms.now }
+        ensures { IfOk result (λ s. IsAdded self terms.now s) }
     {
-        if more.count() == 0 {
+        if terms.count() == 0 {
             return Ok(self);
         }
-        let Running {
-            sum,
-            more: waiting,
-            short,
-        } = self;
-        let mut waiting = waiting;
-        waiting.add_to(more)?;
-        let next = Running {
-            sum,
-            more: waiting,
-            short,
-        };
+        let Running { sum, more, short } = self;
+        let mut more = more;
+        more.add_to(terms)?;
+        let next = Running { sum, more, short };
         next.relieved(alloc)
     }
 
