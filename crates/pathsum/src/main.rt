@@ -64,7 +64,19 @@ fn words<R: Env + AllocGlobal>(rt: &R) -> Result<Vec<String>, AllocError> {
     }
 }
 
+// How many bytes are kept for the next sums when they are freed.
+const KEPT: usize = 24 << 20;
+
+// The C library gives freed memory back to the system, block by block, and asks for it again, unless a
+// large block was freed before (mallopt(3), the dynamic threshold of M_MMAP_THRESHOLD). So one is, first
+// of all; none of its pages is touched, and where there is no room for it nothing is lost but time.
+fn keep_freed(alloc: Global) {
+    let block: Result<Vec<u8>, AllocError> = Vec::with_capacity(alloc, KEPT);
+    drop(block);
+}
+
 fn main(rt: HostRuntime) -> ExitCode {
+    keep_freed(rt.alloc());
     let Ok(words) = words(&rt) else {
         return ExitCode::from(Answer::Memory.status());
     };
