@@ -1,6 +1,6 @@
 //! Whether an item that was made is what prims come to on the qubits of targets, and where it would be kept.
 
-ghost use Rattle.std.specs.Prelude.{◌≡◌, ◌<◌, length, All, IsTrue};
+ghost use Rattle.std.specs.Prelude.{◌≡◌, ◌<◌, ◌↔◌, length, All, IsTrue};
 ghost use Rattle.ps_prim.specs.Maps.{AllWithin, IsWithin};
 ghost use Rattle.qasm_expand.specs.Bodies.{on_qubits, all_on};
 ghost use Rattle.qasm_expand.specs.Targets.{qubits_at};
@@ -44,7 +44,7 @@ pub fn slot_of(first: Prim) -> usize
 fn is_on(made: Prim, targets: &[Target], index: u32, prim: Prim) -> bool
     requires targets { All (Within 64 index) targets.now }
     requires prim { IsWithin (length targets.now) prim }
-    ensures { IsTrue result → made ≡ on_qubits (qubits_at targets.now index) prim }
+    ensures { IsTrue result ↔ (made ≡ on_qubits (qubits_at targets.now index) prim) }
 {
     match made {
         Prim::U {
@@ -83,7 +83,7 @@ fn is_on(made: Prim, targets: &[Target], index: u32, prim: Prim) -> bool
 pub fn is_placed(made: &[Prim], targets: &[Target], index: u32, prims: &[Prim]) -> bool
     requires targets { All (Within 64 index) targets.now }
     requires prims { AllWithin (length targets.now) prims.now }
-    ensures { IsTrue result → made.now ≡ all_on (qubits_at targets.now index) prims.now }
+    ensures { IsTrue result ↔ (made.now ≡ all_on (qubits_at targets.now index) prims.now) }
 {
     if made.len() != prims.len() {
         return false;
