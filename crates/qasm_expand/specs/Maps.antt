@@ -1,6 +1,7 @@
 -- Entries of maps by names, as they are kept.
 use Rattle.std.specs.Prelude.{ℕ, List}
 use Rattle.std.specs.declared.vec.Vec.{Vec}
+use Rattle.std.specs.declared.sync.Arc.{Arc}
 use Rattle.std.specs.declared.alloc.Global.{Global}
 use Rattle.ps_prim.specs.declared.prims.Primitive.{Primitive as Prim}
 use Rattle.ps_prim.specs.declared.items.Item.{Item}
@@ -16,5 +17,6 @@ register_with e = record { name = e.0.items; quantum = e.1.quantum; first = e.1.
 abbrev pub extent_of : Register → Extent
 extent_of r = record { quantum = r.quantum; first = r.first; size = r.size }
 
-abbrev pub prims_in : Item → List Prim
-prims_in i = i.prims
+-- the prims of an item, which may be shared
+abbrev pub prims_in : Arc Item Global → List Prim
+prims_in a = a.value.prims

@@ -1,10 +1,11 @@
 //! Applications and barriers.
 
-ghost use Rattle.std.specs.Prelude.{◌≡◌, ◌+◌, ◌≤◌, ℕ, ◌<◌, ◌++◌, true, length, List, All, OnOk, IfOk, Result};
+ghost use Rattle.std.specs.Prelude.{◌≡◌, ◌+◌, ◌≤◌, ℕ, ◌<◌, ◌++◌, true, length, List, All, OnOk, IfOk, IfSome, Result};
 ghost use Rattle.ps_prim.specs.declared.prims.Primitive.{Primitive as Prim};
 ghost use Rattle.ps_prim.specs.Maps.{AllWithin, IsWithin};
 ghost use Rattle.qasm_parse.specs.Places.{ArgIn, CallIn};
 ghost use Rattle.qasm_expand.specs.declared.fault.ReadFault.{ReadFault};
+ghost use Rattle.qasm_expand.specs.Maps.{prims_in};
 ghost use Rattle.qasm_expand.specs.Tables.{all_different, registers_sound};
 ghost use Rattle.qasm_expand.specs.Bodies.{on_qubits, all_on};
 ghost use Rattle.qasm_expand.specs.Checks.{of_angle as angle_fault, Known};
@@ -23,12 +24,14 @@ use crate::fault::{FaultName, ReadFault};
 use crate::item_list::Items;
 use crate::ready::Ready;
 use crate::registers::Registers;
+use crate::shared::{is_placed, slot_of};
 use crate::target::Target;
 use crate::targets::{aim, index_count, qubit, targets};
 use ps_prim::{Item, Prim};
 use qasm_angle::AngleFault;
 use qasm_parse::{Arg, Call, Formula};
 use std::alloc::{AllocError, Global};
+use std::sync::Arc;
 
 /// A prim on the qubits of targets at an index.
 fn placed(targets: &[Target], index: u32, prim: Prim) -> Prim
@@ -73,6 +76,86 @@ fn all_placed(
     Ok(out)
 }
 
+// The slot of the item that prims come to at an index.
+fn slot(targets: &[Target], index: u32, prims: &[Prim]) -> usize
+    requires targets { All (Within 64 index) targets.now }
+    requires prims { AllWithin (length targets.now) prims.now }
+    ensures { result < 4096 }
+{
+    if prims.is_empty() {
+        return 0;
+    }
+    slot_of(placed(targets, index, prims[0]))
+}
+
+// A pointer to the item that was made last for the slot, where it is what the prims come to at an index.
+fn shared(
+    items: &Items,
+    slot: usize,
+    targets: &[Target],
+    index: u32,
+    prims: &[Prim],
+) -> Result<Option<Arc<Item>>, AllocError>
+    requires targets { All (Within 64 index) targets.now }
+    requires prims { AllWithin (length targets.now) prims.now }
+    ensures { IfOk result (λ o. IfSome o (λ a. prims_in a ≡ all_on (qubits_at targets.now index) prims.now)) }
+{
+    let Some(item) = items.made(slot) else {
+        return Ok(None);
+    };
+    if !is_placed(item.prims.as_slice(), targets, index, prims) {
+        return Ok(None);
+    }
+    let item = Arc::try_clone(item)?;
+    Ok(Some(item))
+}
+
+// The item that prims come to at an index, kept in the slot.
+fn new_item(
+    alloc: Global,
+    items: &mut Items,
+    slot: usize,
+    targets: &[Target],
+    index: u32,
+    prims: &[Prim],
+) -> Result<Arc<Item>, AllocError>
+    requires slot { slot < 4096 }
+    requires few { length prims.now ≤ 4096 }
+    requires prims { AllWithin (length targets.now) prims.now }
+    requires targets { All (Within 64 index) targets.now }
+    requires different { all_different (qubits_at targets.now index) ≡ true }
+    ensures item { IfOk result (λ a. prims_in a ≡ all_on (qubits_at targets.now index) prims.now) }
+    ensures same { items.new ≡ items.old }
+{
+    let item = Arc::new(alloc, Item::new(all_placed(alloc, targets, index, prims)?))?;
+    let kept = Arc::try_clone(&item)?;
+    items.keep(slot, kept)?;
+    Ok(item)
+}
+
+// The item that prims come to at an index: one that was made before, or a new one.
+fn item_at(
+    alloc: Global,
+    items: &mut Items,
+    targets: &[Target],
+    index: u32,
+    prims: &[Prim],
+) -> Result<Arc<Item>, AllocError>
+    requires few { length prims.now ≤ 4096 }
+    requires prims { AllWithin (length targets.now) prims.now }
+    requires targets { All (Within 64 index) targets.now }
+    requires different { all_different (qubits_at targets.now index) ≡ true }
+    ensures item { IfOk result (λ a. prims_in a ≡ all_on (qubits_at targets.now index) prims.now) }
+    ensures same { items.new ≡ items.old }
+{
+    let slot = slot(targets, index, prims);
+    if let Some(item) = shared(items, slot, targets, index, prims)? {
+        return Ok(item);
+    }
+    let item = new_item(alloc, items, slot, targets, index, prims)?;
+    Ok(item)
+}
+
 /// An item more for each index below a count.
 fn add(
     alloc: Global,
@@ -88,7 +171,8 @@ fn add(
     ensures { OnOk result (items.new ≡ items.old ++ items_from prims.now targets.now 0 count) }
 {
     for index in 0..count {
-        items.push(Item::new(all_placed(alloc, targets, index, prims)?))?;
+        let item = item_at(alloc, items, targets, index, prims)?;
+        items.push(item)?;
     }
     Ok(())
 }

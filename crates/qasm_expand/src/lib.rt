@@ -23,6 +23,7 @@ pub mod numbers;
 pub mod programs;
 pub mod ready;
 pub mod registers;
+pub mod shared;
 pub mod spelling;
 pub mod state;
 pub mod tables;

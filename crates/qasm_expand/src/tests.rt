@@ -210,6 +210,10 @@ const REPLACED: &[u8] =
 
 const BARE: &[u8] = b"OPENQASM 2.0;gate e x{}qreg q[64];";
 
+// A text with an own gate of two prims.
+const PAIRED: &[u8] =
+    b"OPENQASM 2.0;include\"qelib1.inc\";gate b x,y{h x;cx x,y;}qreg q[2];qreg r[2];";
+
 // Texts, blocks behind them, and the items of the blocks.
 const BLOCKS: &[(&[u8], &[u8], &[&[Gate]])] = &[
     (
@@ -254,6 +258,31 @@ const BLOCKS: &[(&[u8], &[u8], &[&[Gate]])] = &[
         &[&[Gate::U(0, PI, HALF, 1)], &[Gate::Cx(3, 1)]],
     ),
     (TEXT, b"e q[1];barrier r,q,q[0];", &[&[]]),
+    (
+        PAIRED,
+        b"b q,r;h q;b q,r;b q[0],r;",
+        &[
+            &[Gate::U(HALF, 0, PI, 0), Gate::Cx(0, 2)],
+            &[Gate::U(HALF, 0, PI, 1), Gate::Cx(1, 3)],
+            &[Gate::U(HALF, 0, PI, 0)],
+            &[Gate::U(HALF, 0, PI, 1)],
+            &[Gate::U(HALF, 0, PI, 0), Gate::Cx(0, 2)],
+            &[Gate::U(HALF, 0, PI, 1), Gate::Cx(1, 3)],
+            &[Gate::U(HALF, 0, PI, 0), Gate::Cx(0, 2)],
+            &[Gate::U(HALF, 0, PI, 0), Gate::Cx(0, 3)],
+        ],
+    ),
+    (
+        PAIRED,
+        b"rzz(pi)q,r;rzz(pi/2)q[0],r[0];rzz(pi/2)q[0],r[0];cx q[0],r[0];",
+        &[
+            &[Gate::Cx(0, 2), Gate::U(0, 0, PI, 2), Gate::Cx(0, 2)],
+            &[Gate::Cx(1, 3), Gate::U(0, 0, PI, 3), Gate::Cx(1, 3)],
+            &[Gate::Cx(0, 2), Gate::U(0, 0, HALF, 2), Gate::Cx(0, 2)],
+            &[Gate::Cx(0, 2), Gate::U(0, 0, HALF, 2), Gate::Cx(0, 2)],
+            &[Gate::Cx(0, 2)],
+        ],
+    ),
     (TEXT, b"barrier q,r[0];", &[]),
     (TEXT, b"", &[]),
     (TEXT, b" // nothing", &[]),
