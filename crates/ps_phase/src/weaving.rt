@@ -11,8 +11,7 @@ use ps_mono::Mono;
 use std::alloc::AllocError;
 use std::cmp::Ordering;
 
-// Where there is less than one of the others for so many terms, the terms between two of them are
-// passed all at once.
+// The others are few where there is less than one of them for so many terms.
 const FEW: usize = 8;
 
 // How far two lists have been woven into one, from their ends on: how many terms of each are left, and
@@ -25,7 +24,8 @@ struct Place {
 }
 
 // Both lists in order, terms of one monomial added, in the memory of the first. It moves each term at
-// most once before the gap is closed, and none that comes before the first of the others.
+// most once before the gap is closed, and none that comes before the first of the others. Where these are
+// few, the terms between two of them are passed at once.
 pub(crate) fn weave(terms: &mut Vec<Term>, others: &[Term]) -> Result<(), AllocError>
     requires form { IsPhasePoly terms.old.items }
     requires order { IsPhasePoly others.now }
@@ -52,7 +52,7 @@ pub(crate) fn weave(terms: &mut Vec<Term>, others: &[Term]) -> Result<(), AllocE
     Ok(())
 }
 
-// Where the others are few, the terms that are left and come after the other one, in front of those in
+// Where the others are few, the terms that are left and come after this one of them, in front of those in
 // place.
 fn leapt(terms: &mut Vec<Term>, place: Place, other: &Term, few: bool) -> Place
     requires more { 0 < place.more }
@@ -72,8 +72,8 @@ fn leapt(terms: &mut Vec<Term>, place: Place, other: &Term, few: bool) -> Place
     passed(terms, place, first)
 }
 
-// A place with no term from there on among the first few that does not come after the monomial: it is
-// looked for in steps back from their end that double, and then by halves.
+// The first place among so many terms whose term comes after the monomial, as do then all behind it, and
+// the end where there is none: looked for in steps back that double, and then by halves.
 fn first_after(terms: &[Term], left: usize, mono: &Mono) -> usize
     requires { left ≤ length terms.now }
     ensures within { result ≤ left }
@@ -84,8 +84,7 @@ fn first_after(terms: &[Term], left: usize, mono: &Mono) -> usize
     halved(terms, low, high, mono)
 }
 
-// The last of the places that it comes to in steps that double at which the term comes after the
-// monomial, and the end where there is none.
+// How far steps back that double come before a term that does not come after the monomial.
 fn leap(terms: &[Term], left: usize, mono: &Mono) -> usize
     requires { left ≤ length terms.now }
     ensures within { result ≤ left }
