@@ -67,11 +67,6 @@ map_more : {X Y : Type 0} (f : X → Y) (xs : List X) (x : X) → map f (xs ++ x
 map_more f [] x = refl
 map_more f (y ∷ xs) x = ap (λ r. f y ∷ r) (map_more f xs x)
 
--- one item more on both sides
-pub shared_more : (L M : List (Arc Item Global)) (I K : List Item) (a : Arc Item Global) (i : Item) → M ≡ L ++ a ∷ [] → K ≡ I ++ i ∷ [] → a.value ≡ i → map prims_of L ≡ map prims_in I → map prims_of M ≡ map prims_in K
-shared_more L M I K a i e f g h =
-    ap (map prims_of) e ∙ map_more prims_of L a ∙ ap₂ (λ (x : List (List Prim)) (y : List Prim). x ++ y ∷ []) h (ap prims_in g) ∙ sym (map_more prims_in I i) ∙ ap (map prims_in) (sym f)
-
 run_more : (L : List (List Prim)) (i : List Prim) → run_of (L ++ i ∷ []) ≡ run_of L ++ i
 unfolding run_of
 run_more [] i = alone i
@@ -92,30 +87,30 @@ untrue {b} e f = off (sym e ∙ f)
     off g = cc
 
 -- the prims of the first items
-abbrev pub prims_to : List Item → ℕ → List Prim
+abbrev pub prims_to : List (Arc Item Global) → ℕ → List Prim
 prims_to items i = run_of (map prims_in (take i items))
 
-pub prims_start : (items : List Item) (prims : List Prim) → prims ≡ [] → prims ≡ prims_to items 0
+pub prims_start : (items : List (Arc Item Global)) (prims : List Prim) → prims ≡ [] → prims ≡ prims_to items 0
 unfolding run_of
 prims_start items prims e = e
 
-pub prims_more : (items : List Item) (i : ℕ) (item : Item) (prims more added : List Prim) → i < length items → item ≡ get_or items i item → added ≡ item.prims → more ≡ prims ++ added → prims ≡ prims_to items i → more ≡ prims_to items (i + 1)
+pub prims_more : (items : List (Arc Item Global)) (i : ℕ) (item : Arc Item Global) (prims more added : List Prim) → i < length items → item ≡ get_or items i item → added ≡ item.value.prims → more ≡ prims ++ added → prims ≡ prims_to items i → more ≡ prims_to items (i + 1)
 prims_more items i item prims more added h e f g w =
-    g ∙ ap₂ (λ (x y : List Prim). x ++ y) w f ∙ sym (run_more (map prims_in (take i items)) item.prims) ∙ ap run_of (sym (map_more prims_in (take i items) item))
-    ∙ ap (λ (l : List Item). run_of (map prims_in l)) (ap (λ x. take i items ++ x ∷ []) e ∙ sym (take_more items i item h))
+    g ∙ ap₂ (λ (x y : List Prim). x ++ y) w f ∙ sym (run_more (map prims_in (take i items)) item.value.prims) ∙ ap run_of (sym (map_more prims_in (take i items) item))
+    ∙ ap (λ (l : List (Arc Item Global)). run_of (map prims_in l)) (ap (λ x. take i items ++ x ∷ []) e ∙ sym (take_more items i item h))
 
 -- each item has at most 4,096
-pub few_more : (i : ℕ) (prims more added : List Prim) (item : Item) → added ≡ item.prims → more ≡ prims ++ added → length prims ≤ 4096 * i → length more ≤ 4096 * (i + 1)
+pub few_more : (i : ℕ) (prims more added : List Prim) (item : Arc Item Global) → added ≡ item.value.prims → more ≡ prims ++ added → length prims ≤ 4096 * i → length more ≤ 4096 * (i + 1)
 few_more i prims more added item f g h =
     let e = ap length g ∙ length-append prims added in
     let k = ap length f in
-    let b = item.bounded.0 in
+    let b = item.value.bounded.0 in
     omega (arith, e, k, b, h)
 
-pub few_all : (items : List Item) (i : ℕ) (prims : List Prim) (lists : List (List Prim)) → i ≤ length items → map prims_in items ≡ lists → length prims ≤ 4096 * i → length prims ≤ 4096 * length lists
+pub few_all : (items : List (Arc Item Global)) (i : ℕ) (prims : List Prim) (lists : List (List Prim)) → i ≤ length items → map prims_in items ≡ lists → length prims ≤ 4096 * i → length prims ≤ 4096 * length lists
 few_all items i prims lists h e l = let k = sym (ap length e) ∙ counted items in omega (arith, h, k, l)
   where
-    counted : (xs : List Item) → length (map prims_in xs) ≡ length xs
+    counted : (xs : List (Arc Item Global)) → length (map prims_in xs) ≡ length xs
     counted [] = refl
     counted (x ∷ xs) = ap suc (counted xs)
 
@@ -125,8 +120,8 @@ few_run prims lists all e l h = let k = ap length e in omega (arith, k, l, h)
 pub all_within : (n : ℕ) (lists : List (List Prim)) (prims all : List Prim) → all ≡ prims → prims ≡ run_of lists → ItemsWithin n lists → AllWithin n all
 all_within n lists prims all e f w = subst (AllWithin n) (sym (e ∙ f)) (within_run n lists w)
 
-pub prims_all : (items : List Item) (i : ℕ) (prims : List Prim) (lists : List (List Prim)) → length items ≤ i → map prims_in items ≡ lists → prims ≡ prims_to items i → prims ≡ run_of lists
-prims_all items i prims lists h e w = w ∙ ap (λ (l : List Item). run_of (map prims_in l)) (take_all i items h) ∙ ap run_of e
+pub prims_all : (items : List (Arc Item Global)) (i : ℕ) (prims : List Prim) (lists : List (List Prim)) → length items ≤ i → map prims_in items ≡ lists → prims ≡ prims_to items i → prims ≡ run_of lists
+prims_all items i prims lists h e w = w ∙ ap (λ (l : List (Arc Item Global)). run_of (map prims_in l)) (take_all i items h) ∙ ap run_of e
 
 -- ---- the verdict of the items is that of the prims
 pub verdict_told : (n : ℕ) (A B : List Prim) (ss : List Step) (v : Verdict) (a : Answer) → Decides n A B ss (finding_of v) → Says n (finding_of v) a → IsVerdict n A B a

@@ -87,20 +87,16 @@ fn decided(alloc: Global, pair: Pair) -> Result<Decision, AllocError>
     ensures { IfOk result (IsDecision pair.qubits pair.first pair.second) }
 {
     let qubits = pair.qubits;
-    let first = Arc::new(alloc, shared(alloc, pair.first)?)?;
-    let second = Arc::new(alloc, shared(alloc, pair.second)?)?;
+    let first = Arc::new(alloc, segment(pair.first))?;
+    let second = Arc::new(alloc, segment(pair.second))?;
     ps_normal::decide(alloc, &first, &second, qubits)
 }
 
-// The items, each shared.
-fn shared(alloc: Global, items: qasm_expand::Items) -> Result<Items, AllocError>
-    ensures { IfOk result (λ s. s ≡ items) }
+// The items as those of a segment.
+fn segment(items: qasm_expand::Items) -> Items
+    ensures { result ≡ items }
 {
-    let mut list = Vec::new(alloc);
-    for item in items.into_vec() {
-        list.push(Arc::new(alloc, item)?)?;
-    }
-    Ok(Items::from_vec(list))
+    Items::from_vec(items.into_vec())
 }
 
 // All prims of the items in order.
