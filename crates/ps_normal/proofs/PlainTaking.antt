@@ -19,13 +19,14 @@ use Rattle.ps_join.proofs.PlainSums.{LeafThere, turn_leaf, exchange_leaf}
 use Rattle.ps_reach.specs.declared.evidence.Evidence.{Evidence}
 use Rattle.ps_reach.specs.Parts.{overrun_of}
 use Rattle.ps_reach.specs.Reductions.{rest}
-use Rattle.ps_reach.specs.Fillings.{kept, Joins, reduces, Leaves, leaf_reduces, join_over, next, overrun}
+use Rattle.ps_reach.specs.Fillings.{kept, Leaves, leaf_reduces, join_over, next, overrun}
 use Rattle.ps_normal.specs.declared.parts.Part.TheVariants as part
 use Rattle.ps_normal.specs.Keeping.{IsPlainPrim}
 use Rattle.ps_normal.specs.Pieces.{UsablePart, IsProgress, IsTaken}
 use Rattle.ps_normal.specs.Takings.{UsableHeld}
 use Rattle.ps_normal.proofs.Parting.{usable_leaf, usable_join, join_passed, onto_fault}
 use Rattle.ps_normal.proofs.Plains.{plain_irreducible, plain_still}
+use Rattle.ps_normal.proofs.Suspecting.{still_joins}
 
 -- ---- what the sum before it has
 pub held_within : (n i : ℕ) (g : Prim) (S : PathSum) → UsableHeld n i (Some S) → IsWithin n g → IsWithin S.n g
@@ -52,16 +53,13 @@ plain_leaves n i g L ms ms' p l e = subst (λ x. Leaves n i g ms (kept L x)) (sy
 next_still : (n i : ℕ) (g : Prim) (S L T : PathSum) → IsPlainPrim g → IsWithin n g → UsableHeld n i (Some S) → IsLeafOf n g L → IsJoinOf S L T → IsIrreducible T
 next_still n i g S L T p w u l j = plain_still n g S L T p w u.0.n_is u.0.wide l u.1 j
 
-plain_joins : (n i : ℕ) (g : Prim) (S L T : PathSum) (ms ms' : List Move) → IsIrreducible T → JoinFits S L → IsJoinOf S L T → ms' ≡ ms ++ Join ∷ [] → Joins 0 i (i + 1) S L ms (kept T ms')
-plain_joins n i g S L T ms ms' h f j e = subst (λ x. Joins 0 i (i + 1) S L ms (kept T x)) (sym e) (reduces f j (record { taken = rest; ended = h }))
-
 pub next_plain : (n i : ℕ) (A more : List Prim) (ms ms' ms2 : List Move) (g : Prim) (S T : PathSum) → IsPlainPrim g → (1 ≤ n) × (n ≤ 64) → IsWithin n g → UsableHeld n i (Some S) → ms' ≡ ms ++ Leaf i ∷ [] → ms2 ≡ ms' ++ Join ∷ []
     → ((L : PathSum) → IsLeafOf S.n g L → IsJoinOf S L T) → ((L : PathSum) → IsLeafOf S.n g L → JoinFits S L) → IsProgress n A (g ∷ more) (Some S) i ms → IsTaken n A more (i + 1) ms2 (part.Sum T)
 next_plain n i A more ms ms' ms2 g S T p a w u e e2 joins fits k =
     let t : LeafThere n g = leaf_of n g p a w in
     let l : IsLeafOf S.n g t.sum = own_leaf n g S t.sum u.0.n_is t.is_leaf in
     let still : IsIrreducible T = next_still n i g S t.sum T p w u t.is_leaf (joins t.sum l) in
-    λ o f. k o (next (plain_leaves n i g t.sum ms ms' p t.is_leaf e) (plain_joins n i g S t.sum T ms' ms2 still (fits t.sum l) (joins t.sum l) e2) f)
+    λ o f. k o (next (plain_leaves n i g t.sum ms ms' p t.is_leaf e) (still_joins 0 i (i + 1) S t.sum T ms' ms2 still (fits t.sum l) (joins t.sum l) e2) f)
 
 pub usable_plain : (n i : ℕ) (g : Prim) (S T : PathSum) → IsPlainPrim g → (1 ≤ n) × (n ≤ 64) → IsWithin n g → UsableHeld n i (Some S) → ((L : PathSum) → IsLeafOf S.n g L → IsJoinOf S L T) → UsablePart n (i + 1) (part.Sum T)
 usable_plain n i g S T p a w u joins =

@@ -18,16 +18,17 @@ use Rattle.ps_sum.specs.Forms.{AllPolys}
 use Rattle.ps_sum.specs.Outs.{values, outs_occur}
 use Rattle.ps_sum.proofs.Closings.{length_values}
 use Rattle.ps_sum.proofs.Uniqueness.{taken_length, taken_apart, phase_read}
-use Rattle.ps_rules.specs.declared.steps.Step.{Step}
+use Rattle.ps_rules.specs.declared.steps.Move.{Move}
+use Rattle.ps_rules.specs.declared.steps.Move.TheVariants.{Join}
 use Rattle.ps_rules.specs.Rules.{IsInner, IsIrreducible}
 use Rattle.ps_rules.proofs.Suspects.{spoken_irreducible}
 use Rattle.ps_join.specs.declared.changes.Change.{Change}
 use Rattle.ps_join.specs.declared.changes.Change.TheVariants.{Stay, Path, Flip, More}
 use Rattle.ps_join.specs.Changing.{IsChange}
-use Rattle.ps_join.specs.Joining.{IsJoinOf}
+use Rattle.ps_join.specs.Joining.{IsJoinOf, JoinFits}
 use Rattle.ps_join.proofs.Outputs.{get_value, get_free, own_stands}
-use Rattle.ps_reach.specs.Reductions.{normal, ReducesTo}
-use Rattle.ps_normal.proofs.Floors.{reached_start}
+use Rattle.ps_reach.specs.Reductions.{rest}
+use Rattle.ps_reach.specs.Fillings.{kept, Joins, reduces}
 use Rattle.ps_normal.specs.Pieces.{Joinable}
 use Rattle.ps_normal.specs.Suspecting.{NoneBeside, AreSuspects}
 use Rattle.ps_normal.proofs.Plains.{quiet_none, off, inner_of, same_with, unread, outs_same, outs_read, moved_phase}
@@ -230,8 +231,8 @@ beside_joined S L T None i j h = tt
 beside_joined S L T (Some m) i j h = h i T j
 
 -- ---- where each of them stands in an output
-pub spoken_ended : (S : PathSum) (outs : List (List (List ℕ))) (n : ℕ) (ss : List Step) (m : List ℕ) → outs ≡ S.outs → n ≡ S.n → ss ≡ [] → NoneBeside S m → ((v : ℕ) → n ≤ v → stands v m ≡ true → outs_occur v outs ≡ true) → ReducesTo S ss (normal S)
-spoken_ended S outs n ss m o e z h spoken = record {
-  taken = reached_start S ss z;
-  ended = spoken_irreducible S m h (λ v l t. ap (outs_occur v) (sym o) ∙ spoken v (omega (arith, e, l)) t);
-}
+pub spoken_still : (S : PathSum) (outs : List (List (List ℕ))) (n : ℕ) (m : List ℕ) → outs ≡ S.outs → n ≡ S.n → NoneBeside S m → ((v : ℕ) → n ≤ v → stands v m ≡ true → outs_occur v outs ≡ true) → IsIrreducible S
+spoken_still S outs n m o e h spoken = spoken_irreducible S m h (λ v l t. ap (outs_occur v) (sym o) ∙ spoken v (omega (arith, e, l)) t)
+
+pub still_joins : (from middle to : ℕ) (S1 S2 S : PathSum) (ms ms' : List Move) → IsIrreducible S → JoinFits S1 S2 → IsJoinOf S1 S2 S → ms' ≡ ms ++ Join ∷ [] → Joins from middle to S1 S2 ms (kept S ms')
+still_joins from middle to S1 S2 S ms ms' h f j e = subst (λ x. Joins from middle to S1 S2 ms (kept S x)) (sym e) (reduces f j (record { taken = rest; ended = h }))

@@ -94,13 +94,10 @@ fn reduced(alloc: Global, sum: PathSum) -> Result<Found, AllocError>
     let mut steps = Vec::new(alloc);
     let mut never = NeverStop;
     match reduce(alloc, sum, &mut steps, &mut never)? {
-        Ended::Normal(sum) => {
-            let normal = sum.settled()?;
-            Ok(Found {
-                steps,
-                verdict: shown(normal),
-            })
-        }
+        Ended::Normal(sum) => Ok(Found {
+            steps,
+            verdict: shown(sum),
+        }),
         Ended::Over { passed, sum } => {
             let evidence = evidence(alloc, passed, NOWHERE, sum, None)?;
             Ok(Found {

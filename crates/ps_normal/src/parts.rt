@@ -7,7 +7,7 @@ use ps_sum::{Passed, PathSum};
 #[derive(Drop)]
 pub enum Ended {
     /// At a sum that no step reduces.
-    Normal(Running),
+    Normal(PathSum),
     /// At a sum whose first step passes the limit.
     Over { passed: Passed, sum: PathSum },
     /// Where it was asked to stop.

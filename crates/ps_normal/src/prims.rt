@@ -22,7 +22,7 @@ use ps_io::Stop;
 use ps_join::{Change, Gate, OntoFault, Running, join_gate, leaf};
 use ps_mono::Mono;
 use ps_prim::Prim;
-use ps_rules::{Move, Step};
+use ps_rules::{Move, Step, are_spoken};
 use ps_sum::PathSum;
 use std::alloc::{AllocError, Global};
 use std::sync::Arc;
@@ -45,7 +45,7 @@ pub fn ended_part(
     match ended {
         Ended::Normal(sum) => {
             push_moves(moves, first, steps)?;
-            Ok(Part::Sum(sum))
+            Ok(Part::Sum(Running::of(alloc, sum)))
         }
         Ended::Over { passed, sum } => {
             push_moves(moves, first, steps)?;
@@ -109,6 +109,36 @@ fn suspects(first: &Running, gate: &Gate) -> Option<Mono>
     }
 }
 
+// Whether each of the variables that a step may take away stands in an output.
+fn is_still(sum: &Running, among: &Option<Mono>) -> bool
+    requires others { IfSome among.now (λ m. NoneBeside sum.now m) }
+    ensures { IsTrue result → IsIrreducible sum.now }
+{
+    match among {
+        Some(among) => are_spoken(sum.outputs(), among, sum.qubits() as u16),
+        None => false,
+    }
+}
+
+// The joined sum, which no step reduces. Its terms may go on waiting.
+fn still_part<S: Stop>(
+    sum: Running,
+    moves: &mut Vec<Move>,
+    stop: &mut S,
+) -> Result<Part, AllocError>
+    requires still { IsIrreducible sum }
+    ensures part { IfOk result (λ p. (from middle to : ℕ) (S1 S2 : PathSum) → JoinFits S1 S2 → IsJoinOf S1 S2 sum → PartIs (Joins from middle to S1 S2 moves.old.items) moves.new.items p) }
+    ensures usable { IfOk result (λ p. (n count : ℕ) → Usable n count sum → UsablePart n count p) }
+    ensures stopped { IfOk result (λ p. PartRose (S.yeses stop.old) (S.yeses stop.new) p) }
+    ensures never_falls { S.yeses stop.old ≤ S.yeses stop.new }
+{
+    if stop.asked() {
+        return Ok(Part::Stopped);
+    }
+    moves.push(Move::Join)?;
+    Ok(Part::Sum(sum))
+}
+
 // The joined sum, reduced.
 fn reduce_joined<S: Stop>(
     alloc: Global,
@@ -123,9 +153,10 @@ fn reduce_joined<S: Stop>(
     ensures stopped { IfOk result (λ e. HasRisen (S.yeses stop.old) (S.yeses stop.new) e) }
     ensures never_falls { S.yeses stop.old ≤ S.yeses stop.new }
 {
+    let sum = sum.settled()?;
     match among {
         Some(among) => reduce_among(alloc, sum, &among, steps, stop),
-        None => reduce(alloc, sum.settled()?, steps, stop),
+        None => reduce(alloc, sum, steps, stop),
     }
 }
 
@@ -170,6 +201,9 @@ pub fn join_part<S: Stop>(
     let among = suspects(&first, gate);
     match join_gate(alloc, first, gate) {
         Ok(sum) => {
+            if is_still(&sum, &among) {
+                return still_part(sum, moves, stop);
+            }
             let ended = reduce_joined(alloc, sum, among, steps, stop)?;
             ended_part(alloc, places, Move::Join, ended, moves, steps)
         }

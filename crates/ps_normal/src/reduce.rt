@@ -8,9 +8,8 @@ ghost use Rattle.ps_normal.specs.Suspecting.{NoneBeside};
 
 use super::parts::Ended;
 use ps_io::Stop;
-use ps_join::Running;
 use ps_mono::Mono;
-use ps_rules::{Refused, Step, advance, are_spoken, find, find_among};
+use ps_rules::{Refused, Step, advance, find, find_among};
 use ps_sum::PathSum;
 use std::alloc::{AllocError, Global};
 
@@ -31,11 +30,10 @@ pub fn reduce<S: Stop>(
     reduce_from(alloc, sum, first, steps, stop)
 }
 
-/// The same where a step can take away none but path variables among these. Where each of those stands in
-/// an output, no step applies, and the terms that wait go on waiting.
+/// The same where a step can take away none but path variables among these.
 pub fn reduce_among<S: Stop>(
     alloc: Global,
-    sum: Running,
+    sum: PathSum,
     among: &Mono,
     steps: &mut Vec<Step>,
     stop: &mut S,
@@ -46,14 +44,6 @@ pub fn reduce_among<S: Stop>(
     ensures stopped { IfOk result (λ e. HasRisen (S.yeses stop.old) (S.yeses stop.new) e) }
     ensures never_falls { S.yeses stop.old ≤ S.yeses stop.new }
 {
-    if are_spoken(sum.outputs(), among, sum.qubits() as u16) {
-        steps.clear();
-        if stop.asked() {
-            return Ok(Ended::Stopped);
-        }
-        return Ok(Ended::Normal(sum));
-    }
-    let sum = sum.settled()?;
     let first = find_among(&sum, among);
     reduce_from(alloc, sum, first, steps, stop)
 }
@@ -81,7 +71,7 @@ fn reduce_from<S: Stop>(
             return Ok(Ended::Stopped);
         }
         match next {
-            None => return Ok(Ended::Normal(Running::of(alloc, current))),
+            None => return Ok(Ended::Normal(current)),
             Some(step) => match advance(alloc, current, step) {
                 Ok(reduced) => {
                     steps.push(step)?;

@@ -21,3 +21,8 @@ pub returns-in_ok-ended-in-Ok-clause-usable : goal.returns-in_ok-ended-in-Ok-cla
 returns-in_ok-ended-in-Ok-clause-usable g c = IfOk-weaker c.ended_part.result _ _
     (λ p u n a b v w. u n _ c.in-Ok.sum (usable_join n a b c.args.first c.args.gate.now.sum.value c.in-Ok.sum c.in-Ok.ensures.sum v w) (ended_at _ _ _ _ c.deref.ensures.value c.in_ok-ended-in-Ok.ensures.ended))
     c.ended_part.ensures.usable
+
+pub returns-then-is_still-clause-usable : goal.returns-then-is_still-clause-usable
+returns-then-is_still-clause-usable g c = IfOk-weaker c.still_part.result _ _
+    (λ p u n a b v w. u n (a + b) (usable_join n a b c.args.first c.args.gate.now.sum.value c.in-Ok.sum c.in-Ok.ensures.sum v w))
+    c.still_part.ensures.usable
