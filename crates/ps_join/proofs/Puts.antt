@@ -13,7 +13,7 @@ use Rattle.ps_join.specs.declared.putting.Output.{Output}
 use Rattle.ps_join.specs.declared.putting.Output.TheVariants.{Same, Flipped, Put}
 use Rattle.ps_join.specs.Joining.{IsJoinOf}
 use Rattle.ps_join.specs.Parts.{PhasePart, BoolPart}
-use Rattle.ps_join.specs.Changing.{AllShort}
+use Rattle.ps_join.specs.Changing.{AllShort, NoLonger}
 use Rattle.ps_join.specs.Plainly.{IsAdded}
 use Rattle.ps_join.specs.Placing.{IsFlipOf, place_of, IsInside, OthersSame, IsPut, Becomes}
 use Rattle.ps_join.specs.Totals.{IsNamed, with_more}
@@ -101,17 +101,17 @@ set_others q fs g = (length-set fs q g, λ i d. get_or-set_other fs q i g [] d)
 pub others_there : (q : ℕ) (os fs rs : List (List (List ℕ))) (g : List (List ℕ)) → fs ≡ os → rs ≡ set fs q g → OthersSame q os rs
 others_there q os fs rs g e r = subst (OthersSame q os) (sym (r ∙ ap (λ (o : List (List (List ℕ))). set o q g) e)) (set_others q os g)
 
-pub short_still : (q : ℕ) (fs gs : List (List (List ℕ))) → AllShort fs → OthersSame q fs gs → length (get_or gs q []) < 32768 → AllShort gs
-short_still q fs gs s o l = λ i h. by i h (cases_eq i q)
+pub longest_still : (q most more : ℕ) (fs gs : List (List (List ℕ))) → NoLonger most fs → most ≤ more → OthersSame q fs gs → length (get_or gs q []) ≤ more → NoLonger more gs
+longest_still q most more fs gs s m o l = λ i h. by i h (cases_eq i q)
   where
-    by : (i : ℕ) → i < length gs → ((i ≡ q) ⊎ (i ≡ q → ⊥)) → length (get_or gs i []) < 32768
-    by i h (inl e) = subst (λ k. length (get_or gs k []) < 32768) (sym e) l
-    by i h (inr d) = subst (λ (f : List (List ℕ)). length f < 32768) (sym (o.1 i d)) (s i (omega (arith, h, o.0)))
+    by : (i : ℕ) → i < length gs → ((i ≡ q) ⊎ (i ≡ q → ⊥)) → length (get_or gs i []) ≤ more
+    by i h (inl e) = subst (λ k. length (get_or gs k []) ≤ more) (sym e) l
+    by i h (inr d) = subst (λ (f : List (List ℕ)). length f ≤ more) (sym (o.1 i d)) (omega (arith, m, s i (omega (arith, h, o.0))))
 
-pub put_short : (o : Output) (fs gs : List (List (List ℕ))) → IsPut fs o gs → AllShort fs → ((q : ℕ) → place_of o ≡ Some q → length (get_or gs q []) < 32768) → AllShort gs
-put_short Same fs gs p s l = subst AllShort (sym p) s
-put_short (Flipped q) fs gs p s l = short_still q fs gs s (others_there q fs fs gs p.0 refl p.1.1) (l q refl)
-put_short (Put q f) fs gs p s l = short_still q fs gs s (others_there q fs fs gs f refl p) (l q refl)
+pub put_longest : (o : Output) (most more : ℕ) (fs gs : List (List (List ℕ))) → IsPut fs o gs → NoLonger most fs → most ≤ more → ((q : ℕ) → place_of o ≡ Some q → length (get_or gs q []) ≤ more) → NoLonger more gs
+put_longest Same most more fs gs p s m l = subst (NoLonger more) (sym p) (λ i h. omega (arith, m, s i h))
+put_longest (Flipped q) most more fs gs p s m l = longest_still q most more fs gs s m (others_there q fs fs gs p.0 refl p.1.1) (l q refl)
+put_longest (Put q f) most more fs gs p s m l = longest_still q most more fs gs s m (others_there q fs fs gs f refl p) (l q refl)
 
 pub put_wide : (o : Output) (fs gs : List (List (List ℕ))) → IsPut fs o gs → length gs ≡ length fs
 put_wide Same fs gs p = ap length p

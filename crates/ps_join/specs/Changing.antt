@@ -42,3 +42,7 @@ OnlyInput n q p = (u : ℕ) → u < n → u ≢ q → phase_occurs u p ≡ false
 -- each output is short
 abbrev pub AllShort : List (List (List ℕ)) → Type 0
 AllShort fs = (i : ℕ) → i < length fs → length (get_or fs i []) < 32768
+
+-- no output has more monomials than so many
+abbrev pub NoLonger : ℕ → List (List (List ℕ)) → Type 0
+NoLonger most fs = (i : ℕ) → i < length fs → length (get_or fs i []) ≤ most

@@ -1,9 +1,9 @@
 //! The one output that a gate changes, put among those of the sum before it.
 
-ghost use Rattle.std.specs.Prelude.{◌≡◌, ℕ, ◌<◌, List, true, Some, [], length, get_or, set, IfOk, IsTrue};
+ghost use Rattle.std.specs.Prelude.{◌≡◌, ℕ, ◌<◌, ◌≤◌, List, Some, [], length, get_or, set, IfOk};
+ghost use Rattle.ps_join.specs.Changing.{NoLonger};
 ghost use Rattle.ps_join.specs.Placing.{IsFlipOf, IsInside, IsPut, place_of};
 
-use super::limits::SHORT;
 use ps_bool::BoolPoly;
 use std::alloc::{AllocError, Global};
 use std::mem;
@@ -64,14 +64,33 @@ pub(crate) fn placed(
     }
 }
 
-// Whether each output is known to be short, where that was known before the one at this place changed.
-pub(crate) fn stay_short(short: bool, outs: &[BoolPoly], place: Option<u32>) -> bool
+// The greater count.
+fn greater(first: u64, second: u64) -> u64
+    ensures first { first ≤ result }
+    ensures second { second ≤ result }
+{
+    if first < second { second } else { first }
+}
+
+// How many monomials the longest output has.
+pub(crate) fn longest(outs: &[BoolPoly]) -> u64
+    ensures { NoLonger result outs.now }
+{
+    let mut most = 0;
+    for output in outs {
+        most = greater(most, output.count());
+    }
+    most
+}
+
+// How many the longest has at most, where it was so many before the one at this place changed.
+pub(crate) fn longest_with(before: u64, outs: &[BoolPoly], place: Option<u32>) -> u64
     requires { (q : ℕ) → place ≡ Some q → q < length outs.now }
-    ensures before { IsTrue result → short ≡ true }
-    ensures there { IsTrue result → (q : ℕ) → place ≡ Some q → length (get_or outs.now q []) < 32768 }
+    ensures before { before ≤ result }
+    ensures there { (q : ℕ) → place ≡ Some q → length (get_or outs.now q []) ≤ result }
 {
     match place {
-        None => short,
-        Some(q) => short && outs[q as usize].count() < SHORT,
+        None => before,
+        Some(q) => greater(before, outs[q as usize].count()),
     }
 }

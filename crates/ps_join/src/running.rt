@@ -12,17 +12,17 @@ ghost use Rattle.ps_sum.specs.Sums.{path_values};
 ghost use Rattle.ps_join.specs.Plainly.{IsBehind, IsAdded, IsNear};
 ghost use Rattle.ps_join.specs.Joining.{IsJoinOf, JoinFits};
 ghost use Rattle.ps_join.specs.OntoFaults.{IsOntoFault};
-ghost use Rattle.ps_join.specs.Changing.{AllShort};
+ghost use Rattle.ps_join.specs.Changing.{AllShort, NoLonger};
 ghost use Rattle.ps_join.specs.Totals.{IsNamed};
 ghost use Rattle.ps_join.specs.Widening.{CanWiden, IsWidened};
 
 use super::gating::all_short;
 use super::joins::join_onto;
-use super::limits::MOST_VARIABLES;
+use super::limits::{MOST_VARIABLES, SHORT};
 use super::naming::bool_support;
 use super::onto_fault::OntoFault;
 use super::plains::with_exchange;
-use super::putting::{Output, placed, stay_short};
+use super::putting::{Output, longest, longest_with, placed};
 use ps_bool::BoolPoly;
 use ps_mono::Mono;
 use ps_phase::PhasePoly;
@@ -34,16 +34,16 @@ use std::marker::Model;
 const FEW: u64 = 16;
 
 /// A path sum, and terms that are still to be added to its phase, so that those of several gates are
-/// taken in together. Clauses see the sum with them. Whether each output is known to be short is kept
-/// beside it.
+/// taken in together. Clauses see the sum with them. How many monomials the longest
+/// output has at most is kept beside it.
 #[derive(Drop)]
 pub struct Running {
     sum: PathSum,
     more: PhasePoly,
-    short: bool,
+    longest: u64,
     ghost form: { IsPhasePoly more } by { IsPhasePoly-prop more },
     ghost named: { IsNamed sum more },
-    ghost few: { short ≡ true → AllShort sum.outs },
+    ghost few: { NoLonger longest sum.outs },
 }
 
 impl Model for Running {
@@ -64,11 +64,11 @@ impl Running {
     pub fn of(alloc: Global, sum: PathSum) -> Running
         ensures { result ≡ sum }
     {
-        let short = all_short(sum.outs.polys());
+        let longest = longest(sum.outs.polys());
         Running {
             sum,
             more: PhasePoly::zero(alloc),
-            short,
+            longest,
         }
     }
 
@@ -149,7 +149,7 @@ impl Running {
     pub(crate) fn is_short(&self) -> bool
         ensures { IsTrue result → AllShort self.now.outs }
     {
-        self.short || all_short(self.sum.outs.polys())
+        self.longest < SHORT || all_short(self.sum.outs.polys())
     }
 
     // Whether no limit is passed where a controlled not comes behind the sum.
@@ -160,6 +160,7 @@ impl Running {
     }
 
     // The sum with more terms in its phase.
+    #[inline]
     pub(crate) fn added(self, alloc: Global, terms: &PhasePoly) -> Result<Running, AllocError>
         requires { IsNamed self terms.now }
         ensures { IfOk result (λ s. IsAdded self terms.now s) }
@@ -167,10 +168,10 @@ impl Running {
         if terms.count() == 0 {
             return Ok(self);
         }
-        let Running { sum, more, short } = self;
+        let Running { sum, more, longest } = self;
         let mut more = more;
         more.add_to(terms)?;
-        let next = Running { sum, more, short };
+        let next = Running { sum, more, longest };
         next.relieved(alloc)
     }
 
@@ -190,10 +191,10 @@ impl Running {
         requires target { t < length self.outs }
         ensures { IfOk result (λ s. IsBehind self (exchanged c t) (λ x. 0) s) }
     {
-        let Running { sum, more, short } = self;
+        let Running { sum, more, longest } = self;
         let sum = with_exchange(sum, c, t)?;
-        let short = stay_short(short, sum.outs.polys(), Some(t));
-        Ok(Running { sum, more, short })
+        let longest = longest_with(longest, sum.outs.polys(), Some(t));
+        Ok(Running { sum, more, longest })
     }
 
     // The sum with the path variables and the scale of the second beside its own, and with the output that
@@ -207,11 +208,11 @@ impl Running {
         requires { CanWiden self second.now output }
         ensures { IfOk result (λ s. IsWidened self second.now output s) }
     {
-        let Running { sum, more, short } = self;
+        let Running { sum, more, longest } = self;
         let place = output.place();
         let sum = widened(alloc, sum, second, output)?;
-        let short = stay_short(short, sum.outs.polys(), place);
-        Ok(Running { sum, more, short })
+        let longest = longest_with(longest, sum.outs.polys(), place);
+        Ok(Running { sum, more, longest })
     }
 }
 

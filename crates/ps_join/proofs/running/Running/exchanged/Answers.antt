@@ -1,8 +1,8 @@
-use Rattle.std.proofs.Common.{refl, ap, sym, subst, length, ◌<◌, [], get_or}
+use Rattle.std.proofs.Common.{refl, ap, sym, subst, length, ◌<◌, ◌≤◌, [], get_or}
 use Rattle.ps_prim.specs.Amplitudes.{exchanged}
 use Rattle.ps_sum.specs.declared.sums.PathSum.{PathSum}
 use Rattle.ps_join.specs.Totals.{with_more}
-use Rattle.ps_join.proofs.Puts.{short_still}
+use Rattle.ps_join.proofs.Puts.{longest_still}
 use Rattle.ps_join.proofs.Totals.{behind_at, named_as, total_behind}
 use Rattle.ps_join.proofs.running.Running.exchanged.Goals as goal
 
@@ -20,7 +20,7 @@ invariant_of-result c =
       c.self.inside.form,
       (
         named_as s1 s2 c.self.inside.more c.in_ok-sum.ensures.behind.n_is c.in_ok-sum.ensures.behind.m_is c.self.inside.named,
-        ((λ t. short_still c.args.t s1.outs s2.outs (c.self.inside.few (c.stay_short-short.ensures.before t)) others (subst (λ fs. length (get_or fs c.args.t []) < 32768) c.polys.ensures (c.stay_short-short.ensures.there t c.args.t refl))), tt),
+        (longest_still c.args.t c.self.inside.longest c.longest_with-longest.result s1.outs s2.outs c.self.inside.few c.longest_with-longest.ensures.before others (subst (λ fs. length (get_or fs c.args.t []) ≤ c.longest_with-longest.result) c.polys.ensures (c.longest_with-longest.ensures.there c.args.t refl)), tt),
       ),
     )
 

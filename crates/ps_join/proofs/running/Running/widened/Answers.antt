@@ -1,5 +1,5 @@
-use Rattle.std.proofs.Common.{◌∙◌, subst, length, ◌<◌, [], get_or}
-use Rattle.ps_join.proofs.Puts.{can_widen, put_short, widened_named, widened_total}
+use Rattle.std.proofs.Common.{◌∙◌, subst, length, ◌<◌, ◌≤◌, [], get_or}
+use Rattle.ps_join.proofs.Puts.{can_widen, put_longest, widened_named, widened_total}
 use Rattle.ps_join.proofs.running.Running.widened.Goals as goal
 
 pub widened-requires : goal.widened-requires
@@ -11,9 +11,8 @@ invariant_of-result c = (
   (
     widened_named c.self.inside.sum c.args.second.now c.in_ok-sum.sum c.args.output c.self.inside.more c.self.inside.named c.in_ok-sum.ensures,
     (
-      (λ t.
-          put_short c.args.output c.self.inside.sum.outs c.in_ok-sum.sum.outs c.in_ok-sum.ensures.outs_are (c.self.inside.few (c.stay_short-short.ensures.before t))
-          (λ q e. subst (λ fs. length (get_or fs q []) < 32768) c.polys.ensures (c.stay_short-short.ensures.there t q (c.place-place.ensures ∙ e)))),
+      put_longest c.args.output c.self.inside.longest c.longest_with-longest.result c.self.inside.sum.outs c.in_ok-sum.sum.outs c.in_ok-sum.ensures.outs_are c.self.inside.few c.longest_with-longest.ensures.before
+          (λ q e. subst (λ fs. length (get_or fs q []) ≤ c.longest_with-longest.result) c.polys.ensures (c.longest_with-longest.ensures.there q (c.place-place.ensures ∙ e))),
       tt,
     ),
   ),
