@@ -12,7 +12,7 @@ use std::alloc::AllocError;
 use std::cmp::Ordering;
 
 // The others are few where there is less than one of them for so many terms.
-const FEW: usize = 8;
+const FEW: usize = 16;
 
 // How far two lists have been woven into one, from their ends on: how many terms of each are left, and
 // where the terms begin that are in place.
