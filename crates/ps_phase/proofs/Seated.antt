@@ -14,7 +14,7 @@ use Rattle.ps_mono.proofs.Orders.{mono_equal}
 use Rattle.ps_mono.proofs.LowOrders.{low_cmp}
 use Rattle.ps_phase.specs.Phases.{phase_value, phase_occurs, IsPhasePoly, AllSmall}
 use Rattle.ps_phase.specs.Adding.{choose, put_term, combined_terms}
-use Rattle.ps_phase.specs.Seating.{seat_term, seat_terms, IsSeat}
+use Rattle.ps_phase.specs.Seating.{seat_term, seat_terms, IsSeat, AllLow}
 use Rattle.ps_phase.proofs.Adding.{M, cut}
 use Rattle.ps_phase.proofs.Combining.{falls, combined_same, combined_other, combined_end, gathered_form, gathered_value, gathered_free}
 
@@ -32,6 +32,9 @@ seating_start ts ss e = subst (λ (r : List Seat). Seating ts r 0) (sym e) (reco
 seat_is : (ts : List Term) (s : Seat) (t : Term) → s.place < length ts → t ≡ get_or ts s.place t → seat_term ts s ≡ t
 unfolding seat_term
 seat_is ts s t h e = sym (get_or_read ts s.place t h e (record { mono = []; phase = 0 }))
+
+pub low_at : (ts : List Term) (i : ℕ) (t : Term) → AllLow ts → i < length ts → t ≡ get_or ts i t → IsLow t.mono
+low_at ts i t a h e = subst (λ (u : Term). IsLow u.mono) (sym e) (a i t h)
 
 pub seating_more : (ts : List Term) (ss rs : List Seat) (i : ℕ) (s : Seat) (t : Term) → i < length ts → t ≡ get_or ts i t → IsVarSet t.mono → IsLow t.mono → s.key ≡ low_key t.mono → s.phase ≡ t.phase → s.phase < M → s.place ≡ i → rs ≡ ss ++ s ∷ [] → Seating ts ss i → Seating ts rs (i + 1)
 seating_more ts ss rs i s t h et set low key phase small place e g =
@@ -180,8 +183,8 @@ pub seated_free : (ts : List Term) (ss rs : List Seat) (vs : List Term) → seat
 seated_free ts ss rs vs t p e v = gathered_free ts (seat_terms ts rs) (seat_terms ts rs) vs refl e (seats_moved ts ss rs t p) v
 
 -- there are as many seats as terms
-pub seats_some : (ts : List Term) (ss rs qs : List Seat) (few : ℕ) → qs ≡ rs → seat_terms ts ss ≡ ts → IsPermutation ss rs → few < length ts → 0 < length qs
-seats_some ts ss rs qs few e t p h = omega (arith, ap (λ (r : List Seat). length r) e, length_permutation ss rs p, length-map ss (seat_term ts), ap (λ (r : List Term). length r) t)
+pub seats_some : (ts : List Term) (ss rs qs : List Seat) → qs ≡ rs → seat_terms ts ss ≡ ts → IsPermutation ss rs → 0 < length ts → 0 < length qs
+seats_some ts ss rs qs e t p h = omega (arith, ap (λ (r : List Seat). length r) e, length_permutation ss rs p, length-map ss (seat_term ts), ap (λ (r : List Term). length r) t)
 
 pub seats_all : (ts : List Term) (ss rs qs : List Seat) → qs ≡ rs → All (IsSeat ts) ss → IsPermutation ss rs → All (IsSeat ts) qs
 seats_all ts ss rs qs e a p = subst (All (IsSeat ts)) (sym e) (All-permutation (IsSeat ts) ss rs p a)

@@ -1,5 +1,5 @@
 -- Seats of terms, which are sorted in place of the terms.
-use Rattle.std.specs.Prelude.{◌≡◌, ◌<◌, List, [], length, get_or, map}
+use Rattle.std.specs.Prelude.{◌≡◌, ◌<◌, List, [], length, get_or, map, All}
 use Rattle.ps_phase.specs.declared.terms.Term.{Term}
 use Rattle.ps_phase.specs.declared.seats.Seat.{Seat}
 use Rattle.ps_mono.specs.Sets.{IsVarSet}
@@ -21,3 +21,7 @@ pub record IsSeat (ts : List Term) (s : Seat) : Type 0 where
   pub key : s.key ≡ low_key (seat_term ts s).mono
   pub phase : s.phase ≡ (seat_term ts s).phase
   pub small : s.phase < 4294967296
+
+-- all variables of each monomial are low
+abbrev pub AllLow : List Term → Type 0
+AllLow ts = All (λ (t : Term). IsLow t.mono) ts

@@ -6,7 +6,7 @@ ghost use Rattle.ps_mono.specs.Sets.{stands};
 use super::gathering::{combine, is_ordered};
 use super::inplace::{absorb, fits};
 use super::merging::{added, push_term, scaled, selected};
-use super::seating::seated_sum;
+use super::seating::{are_seatable, seated_sum};
 use super::sorting::sort_terms;
 use super::terms::Term;
 use super::weaving::weave;
@@ -74,9 +74,11 @@ impl PhasePoly {
         if is_ordered(&terms) {
             return Ok(PhasePoly { terms });
         }
-        match seated_sum(*terms.allocator(), &terms) {
-            Some(sum) => return Ok(PhasePoly { terms: sum }),
-            None => {}
+        if are_seatable(&terms) {
+            match seated_sum(*terms.allocator(), &terms) {
+                Ok(sum) => return Ok(PhasePoly { terms: sum }),
+                Err(_) => {}
+            }
         }
         sort_terms(&mut terms);
         combine(&mut terms);

@@ -1,8 +1,8 @@
-ghost use Rattle.std.specs.Prelude.{◌≡◌, ℕ, ◌<◌, Bool, true, [], length, All, IfOk, IfSome, IsPermutation, IsSortedByKey};
+ghost use Rattle.std.specs.Prelude.{◌≡◌, ℕ, ◌<◌, Bool, true, [], ◌↔◌, length, All, IfOk, IsTrue, IsPermutation, IsSortedByKey};
 ghost use Rattle.std.specs.Ordering.{nat_cmp};
 ghost use Rattle.ps_phase.specs.Phases.{phase_occurs, IsPhasePoly, SameTurns};
 ghost use Rattle.ps_phase.specs.Adding.{combined_terms};
-ghost use Rattle.ps_phase.specs.Seating.{IsSeat, seat_terms};
+ghost use Rattle.ps_phase.specs.Seating.{AllLow, IsSeat, seat_terms};
 
 use super::merging::push_term;
 use super::seats::Seat;
@@ -13,31 +13,43 @@ use std::alloc::{AllocError, Global};
 // Seats pay only where there are more terms.
 const FEW: usize = 16;
 
-// A seat for each term, in their order; none where a variable is not low, or memory is wanting.
-fn seats_of(alloc: Global, terms: &[Term]) -> Option<Vec<Seat>>
-    ensures all { IfSome result (λ v. All (IsSeat terms.now) v.items) }
-    ensures terms { IfSome result (λ v. seat_terms terms.now v.items ≡ terms.now) }
+// Whether all variables of each monomial are low.
+fn are_low(terms: &[Term]) -> bool
+    ensures { IsTrue result ↔ AllLow terms.now }
 {
-    let Ok(mut seats) = Vec::with_capacity(alloc, terms.len()) else {
-        return None;
-    };
+    for term in terms {
+        if !term.mono.is_low() {
+            return false;
+        }
+    }
+    true
+}
+
+// Whether there are many terms, and all their variables are low, so that they can be summed by seats.
+pub(crate) fn are_seatable(terms: &[Term]) -> bool
+    ensures { IsTrue result ↔ ((16 < length terms.now) × AllLow terms.now) }
+{
+    terms.len() > FEW && are_low(terms)
+}
+
+// A seat for each term, in their order.
+fn seats_of(alloc: Global, terms: &[Term]) -> Result<Vec<Seat>, AllocError>
+    requires { AllLow terms.now }
+    ensures all { IfOk result (λ v. All (IsSeat terms.now) v.items) }
+    ensures terms { IfOk result (λ v. seat_terms terms.now v.items ≡ terms.now) }
+{
+    let mut seats = Vec::with_capacity(alloc, terms.len())?;
     for place in 0..terms.len() {
         let term = &terms[place];
         term.mono.known();
-        if !term.mono.is_low() {
-            return None;
-        }
         let seat = Seat {
             key: term.mono.low_key(),
             phase: Phase::of(term.phase.units()),
             place,
         };
-        match seats.push(seat) {
-            Ok(()) => {}
-            Err(_) => return None,
-        }
+        seats.push(seat)?;
     }
-    Some(seats)
+    Ok(seats)
 }
 
 fn sort_seats(seats: &mut Vec<Seat>)
@@ -69,21 +81,16 @@ fn combined(alloc: Global, terms: &[Term], seats: &[Seat]) -> Result<Vec<Term>, 
 }
 
 // The sum of the terms, by seats that are sorted in their place, so that only what is left of them is
-// moved; none where terms are few, where a variable is not low, and where memory is wanting.
-pub(crate) fn seated_sum(alloc: Global, terms: &[Term]) -> Option<Vec<Term>>
-    ensures value { IfSome result (λ v. SameTurns v.items terms.now) }
-    ensures variables { IfSome result (λ v. (u : ℕ) → phase_occurs u v.items ≡ true → phase_occurs u terms.now ≡ true) }
-    ensures form { IfSome result (λ v. IsPhasePoly v.items) }
+// moved. `AllocError` is want of memory.
+pub(crate) fn seated_sum(alloc: Global, terms: &[Term]) -> Result<Vec<Term>, AllocError>
+    requires some { 0 < length terms.now }
+    requires low { AllLow terms.now }
+    ensures value { IfOk result (λ v. SameTurns v.items terms.now) }
+    ensures variables { IfOk result (λ v. (u : ℕ) → phase_occurs u v.items ≡ true → phase_occurs u terms.now ≡ true) }
+    ensures form { IfOk result (λ v. IsPhasePoly v.items) }
 {
-    if terms.len() <= FEW {
-        return None;
-    }
-    let Some(mut seats) = seats_of(alloc, terms) else {
-        return None;
-    };
+    let mut seats = seats_of(alloc, terms)?;
     sort_seats(&mut seats);
-    match combined(alloc, terms, &seats) {
-        Ok(sum) => Some(sum),
-        Err(_) => None,
-    }
+    let sum = combined(alloc, terms, &seats)?;
+    Ok(sum)
 }
