@@ -4,6 +4,7 @@ use crate::fault::{FaultName, ReadFault};
 use crate::item_list::Items;
 use ps_prim::Prim;
 use std::alloc::{AllocError, Global};
+use std::sync::Arc;
 use std::test::Fail;
 
 // The statements behind the first line of a text, and the fault with its offset.
@@ -368,6 +369,22 @@ fn blocks_read(alloc: Global) -> bool {
 #[test]
 fn blocks_come_to_their_items(rt: HostRuntime) -> Result<(), Fail> {
     assert!(rt; blocks_read(rt.alloc()));
+    Ok(())
+}
+
+// Whether each item that a broadcast gate comes to is shared with the second time: two pointers stand in the
+// list, and one is kept.
+fn equal_are_shared(alloc: Global) -> bool {
+    let Ok(items) = behind(alloc, PAIRED, b"b q,r;b q,r;") else {
+        return false;
+    };
+    let list = items.as_slice();
+    list.len() == 4 && Arc::strong_count(&list[0]) == 3 && Arc::strong_count(&list[3]) == 3
+}
+
+#[test]
+fn equal_items_are_shared(rt: HostRuntime) -> Result<(), Fail> {
+    assert!(rt; equal_are_shared(rt.alloc()));
     Ok(())
 }
 
