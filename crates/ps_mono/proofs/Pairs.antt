@@ -1,5 +1,5 @@
 -- Two names that close up at once, by words.
-use Rattle.std.proofs.Common.{◌≡◌, ◌≢◌, ℕ, suc, ◌+◌, ◌-◌, ◌*◌, ◌/◌, ◌%◌, ◌^◌, refl, ap, sym, ◌∙◌, arith, ◌<◌, ◌≤◌, Bool, true, false, nat_eq, nat_lt, List, length, set, get_or, ◌⊎◌, inl, inr, bit_and, bit_or}
+use Rattle.std.proofs.Common.{◌≡◌, ◌≢◌, ℕ, suc, ◌+◌, ◌-◌, ◌*◌, ◌/◌, ◌%◌, ◌^◌, refl, ap, sym, ◌∙◌, arith, ◌<◌, ◌≤◌, Bool, true, false, nat_eq, nat_lt, ◌||◌, List, [], ◌∷◌, length, set, get_or, ◌⊎◌, inl, inr, bit_and, bit_or}
 use Rattle.std.proofs.lemmas.Bool.{cases_lt, cases_eq}
 use Rattle.std.proofs.lemmas.Bool.Decides.{nat_tests}
 use Rattle.std.specs.Int.{bit_at}
@@ -338,3 +338,21 @@ pairing_second low last i once x one two old words o h s far n b f g p = pairing
     (λ j l m. absurd (omega arith))
     (λ j l m r. b.on j l (n j l ∙ is_below last (64 * i + j) r) ∙ f j l)
     (λ j l m. b.off j l (n j l ∙ not_below last (64 * i + j) m) ∙ g j l) p
+
+-- ---- three variables
+or_none : (p : Bool) → (p || false) ≡ p
+or_none true = refl
+or_none false = refl
+
+or_three : (p q r : Bool) → ((p || q) || r) ≡ (p || (q || r))
+or_three true q r = refl
+or_three false q r = refl
+
+alone : (w v : ℕ) (m : List ℕ) → m ≡ v ∷ [] → stands w m ≡ nat_eq w v
+unfolding stands
+alone w v m e = ap (stands w) e ∙ or_none (nat_eq w v)
+
+pub three_made : (w a b c : ℕ) (one two three both all : List ℕ) → one ≡ a ∷ [] → two ≡ b ∷ [] → three ≡ c ∷ [] → stands w both ≡ (stands w one || stands w two) → stands w all ≡ (stands w both || stands w three) → stands w all ≡ (nat_eq w a || (nat_eq w b || nat_eq w c))
+three_made w a b c one two three both all e f g h k =
+    k ∙ ap (λ p. p || stands w three) h ∙ or_three (stands w one) (stands w two) (stands w three) ∙ ap (λ p. p || (stands w two || stands w three)) (alone w a one e)
+    ∙ ap (λ p. nat_eq w a || (p || stands w three)) (alone w b two f) ∙ ap (λ p. nat_eq w a || (nat_eq w b || p)) (alone w c three g)

@@ -1,3 +1,6 @@
+ghost use Rattle.std.specs.Prelude.{◌≡◌, ℕ, ◌<◌, ◌||◌, nat_eq};
+ghost use Rattle.ps_mono.specs.Sets.{stands};
+
 use super::*;
 use std::cmp::Ordering;
 use std::test::Fail;
@@ -99,6 +102,7 @@ fn triple(first: u16, second: u16, third: u16) -> Mono
     requires first { first < 512 }
     requires second { second < 512 }
     requires third { third < 512 }
+    ensures { (w : ℕ) → stands w result ≡ (nat_eq w first || (nat_eq w second || nat_eq w third)) }
 {
     Mono::var(first)
         .union(&Mono::var(second))
