@@ -17,13 +17,13 @@ use Rattle.ps_mono.proofs.Counts.{put_fits, length_put, digit_off}
 abbrev pub closed_bits : ℕ → ℕ → ℕ → ℕ
 closed_bits word next kept = bit_or (bit_and word kept) (bit_and (bit_or (word / 2) (next * 9223372036854775808 % 18446744073709551616)) (18446744073709551615 - kept))
 
-pick : (x y m n j : ℕ) → bit_at m j ≡ 1 → bit_at n j ≡ 0 → bit_at (bit_or (bit_and x m) (bit_and y n)) j ≡ bit_at x j
+pub pick : (x y m n j : ℕ) → bit_at m j ≡ 1 → bit_at n j ≡ 0 → bit_at (bit_or (bit_and x m) (bit_and y n)) j ≡ bit_at x j
 pick x y m n j a b = omega (arith, bit_at_or (bit_and x m) (bit_and y n) j, bit_at_and x m j, bit_at_and y n j, bit_at-lt x j)
 
-pick_other : (x y m n j : ℕ) → bit_at m j ≡ 0 → bit_at n j ≡ 1 → bit_at (bit_or (bit_and x m) (bit_and y n)) j ≡ bit_at y j
+pub pick_other : (x y m n j : ℕ) → bit_at m j ≡ 0 → bit_at n j ≡ 1 → bit_at (bit_or (bit_and x m) (bit_and y n)) j ≡ bit_at y j
 pick_other x y m n j a b = omega (arith, bit_at_or (bit_and x m) (bit_and y n) j, bit_at_and x m j, bit_at_and y n j, bit_at-lt y j)
 
-rest_at : (m j : ℕ) → m < 2 ^ 64 → j < 64 → bit_at (18446744073709551615 - m) j ≡ 1 - bit_at m j
+pub rest_at : (m j : ℕ) → m < 2 ^ 64 → j < 64 → bit_at (18446744073709551615 - m) j ≡ 1 - bit_at m j
 rest_at m j h l = bit_at_not w64 m j h l
 
 -- what a bit is
@@ -35,15 +35,15 @@ is_none zero h e = refl
 is_none (suc zero) h e = cc
 is_none (suc (suc b)) h e = absurd (omega arith)
 
-set_one : (x j : ℕ) → is_set x j ≡ true → bit_at x j ≡ 1
+pub set_one : (x j : ℕ) → is_set x j ≡ true → bit_at x j ≡ 1
 unfolding is_set
 set_one x j e = is_one (bit_at x j) e
 
-set_none : (x j : ℕ) → is_set x j ≡ false → bit_at x j ≡ 0
+pub set_none : (x j : ℕ) → is_set x j ≡ false → bit_at x j ≡ 0
 unfolding is_set
 set_none x j e = is_none (bit_at x j) (bit_at-lt x j) e
 
-top_is : (next : ℕ) → next * 9223372036854775808 % 18446744073709551616 ≡ next % 2 * 2 ^ 63 + 0
+pub top_is : (next : ℕ) → next * 9223372036854775808 % 18446744073709551616 ≡ next % 2 * 2 ^ 63 + 0
 top_is next = omega arith
 
 top_low : (next j : ℕ) → j < 63 → bit_at (next * 9223372036854775808 % 18446744073709551616) j ≡ 0
@@ -55,10 +55,10 @@ top_top next = ap (λ x. bit_at x 63) (top_is next) ∙ bit_at_cat_high (next % 
     twice : next % 2 % 2 ≡ next % 2
     twice = omega arith
 
-or_left : (x y j : ℕ) → bit_at y j ≡ 0 → bit_at (bit_or x y) j ≡ bit_at x j
+pub or_left : (x y j : ℕ) → bit_at y j ≡ 0 → bit_at (bit_or x y) j ≡ bit_at x j
 or_left x y j h = omega (arith, bit_at_or x y j, bit_at-lt x j)
 
-or_right : (x y j : ℕ) → bit_at x j ≡ 0 → bit_at (bit_or x y) j ≡ bit_at y j
+pub or_right : (x y j : ℕ) → bit_at x j ≡ 0 → bit_at (bit_or x y) j ≡ bit_at y j
 or_right x y j h = omega (arith, bit_at_or x y j, bit_at-lt y j)
 
 pub bits_below : (word next kept j : ℕ) → kept < 2 ^ 64 → j < 64 → is_set kept j ≡ true → is_set (closed_bits word next kept) j ≡ is_set word j
@@ -97,10 +97,10 @@ bits_small word next kept s =
     both x y a b = or_lt 64 x y a b
 
 -- ---- the bits below a variable
-not_below : (v x : ℕ) → v ≤ x → nat_lt x v ≡ false
+pub not_below : (v x : ℕ) → v ≤ x → nat_lt x v ≡ false
 not_below v x h = grind (arith, nat_tests)
 
-is_below : (v x : ℕ) → x < v → nat_lt x v ≡ true
+pub is_below : (v x : ℕ) → x < v → nat_lt x v ≡ true
 is_below v x h = grind (arith, nat_tests)
 
 pub none_below : (v start j : ℕ) → v ≤ start → is_set 0 j ≡ nat_lt (start + j) v
@@ -192,12 +192,12 @@ closed_all ws out v h w l =
     let e : w ≡ 64 * (w / 64) + w % 64 = omega arith in
     ap (has out) e ∙ has_at out (w / 64) (w % 64) (omega arith) ∙ h (w / 64) (omega arith) (w % 64) (omega arith) ∙ ap (λ n. has ws (opened v n)) (sym e)
 
-is_set_zero : (x i : ℕ) → x ≡ 0 → is_set x i ≡ false
+pub is_set_zero : (x i : ℕ) → x ≡ 0 → is_set x i ≡ false
 unfolding is_set
 is_set_zero x i h = ap (λ y. nat_eq (bit_at y i) 1) h ∙ ap (λ b. nat_eq b 1) (bit_at-zero i)
 
 -- no bit in the words that are 0
-none_past : (ws : List ℕ) (used u : ℕ) → ((k : ℕ) → used ≤ k → get_or ws k 0 ≡ 0) → 64 * used ≤ u → has ws u ≡ false
+pub none_past : (ws : List ℕ) (used u : ℕ) → ((k : ℕ) → used ≤ k → get_or ws k 0 ≡ 0) → 64 * used ≤ u → has ws u ≡ false
 unfolding has
 none_past ws used u h l = is_set_zero _ (u % 64) (h (u / 64) (omega arith))
 
@@ -225,7 +225,7 @@ empty_past ws m names used k f e h l n = by (cases_lt k 8)
     by (inr a) = get_or_past ws k 0 (omega (arith, f.size))
 
 -- ---- the set
-past_end : (ws : List ℕ) (w : ℕ) → Fits8 ws → 512 ≤ w → w < 576 → has ws w ≡ false
+pub past_end : (ws : List ℕ) (w : ℕ) → Fits8 ws → 512 ≤ w → w < 576 → has ws w ≡ false
 past_end ws w f h l =
     let e : w ≡ 64 * 8 + (w - 512) = omega arith in
     ap (has ws) e ∙ has_at ws 8 (w - 512) (omega arith) ∙ is_set_zero _ (w - 512) (get_or_past ws 8 0 (omega (arith, f.size)))
@@ -265,7 +265,7 @@ no_members : (p : ℕ → Bool) (lo : ℕ) → members p lo 0 ≡ []
 unfolding members
 no_members p lo = refl
 
-close_count : (p q : ℕ → Bool) (lo n v : ℕ) → lo ≤ v → v ≤ lo + n → p v ≡ false → ((w : ℕ) → w < v → q w ≡ p w) → ((w : ℕ) → w < lo + n → v ≤ w → q w ≡ p (suc w)) → length (members p lo (suc n)) ≡ length (members q lo n)
+pub close_count : (p q : ℕ → Bool) (lo n v : ℕ) → lo ≤ v → v ≤ lo + n → p v ≡ false → ((w : ℕ) → w < v → q w ≡ p w) → ((w : ℕ) → w < lo + n → v ≤ w → q w ≡ p (suc w)) → length (members p lo (suc n)) ≡ length (members q lo n)
 close_count p q lo zero v h k f a b = let e : lo ≡ v = omega arith in more_members p lo zero ∙ count_here p q lo zero (ap p e ∙ f) (λ w l m. absurd (omega arith))
 close_count p q lo (suc n) v h k f a b = by (cases_lt lo v) (λ l. close_count p q (suc lo) n v l (omega arith) f a (λ w m o. b w (omega arith) o))
   where
@@ -273,7 +273,7 @@ close_count p q lo (suc n) v h k f a b = by (cases_lt lo v) (λ l. close_count p
     by (inl l) r = omega (arith, more_members p lo (suc n), more_members q lo n, length_put (p lo) lo (members p (suc lo) (suc n)), length_put (q lo) lo (members q (suc lo) n), ap digit (a lo l), r l)
     by (inr l) r = let e : lo ≡ v = omega arith in more_members p lo (suc n) ∙ count_here p q lo (suc n) (ap p e ∙ f) (λ w x y. b w y (omega arith))
 
-last_off : (q : ℕ → Bool) → q 511 ≡ false → length (members q 0 512) ≡ length (members q 0 511)
+pub last_off : (q : ℕ → Bool) → q 511 ≡ false → length (members q 0 512) ≡ length (members q 0 511)
 last_off q h = omega (arith, ap (λ (m : List ℕ). length m) (members_split q 0 511 1), length-append (members q 0 511) (members q 511 1), more_members q 511 0, ap (λ (m : List ℕ). length (put (q 511) 511 m)) (no_members q 512), length_put (q 511) 511 [], digit_off (q 511) h)
 
 pub closed_counted : (ws out m : List ℕ) (degree v : ℕ) → IsCounted ws degree → vars ws ≡ m → v < 512 → stands v m ≡ false → Fits8 out → ((w : ℕ) → w < 512 → has out w ≡ has ws (opened v w)) → IsCounted out degree

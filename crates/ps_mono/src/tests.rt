@@ -1,3 +1,6 @@
+ghost use Rattle.std.specs.Prelude.{◌≡◌, ℕ, ◌<◌, ◌||◌, nat_eq};
+ghost use Rattle.ps_mono.specs.Sets.{stands};
+
 use super::*;
 use std::cmp::Ordering;
 use std::test::Fail;
@@ -92,5 +95,35 @@ fn supports(rt: HostRuntime) -> Result<(), Fail> {
     support.add(&Mono::var(64));
     assert_eq!(rt; Mono::of_bits(&support), wide);
     assert_eq!(rt; Mono::of_bits(&support).degree(), 3);
+    Ok(())
+}
+
+fn triple(first: u16, second: u16, third: u16) -> Mono
+    requires first { first < 512 }
+    requires second { second < 512 }
+    requires third { third < 512 }
+    ensures { (w : ℕ) → stands w result ≡ (nat_eq w first || (nat_eq w second || nat_eq w third)) }
+{
+    Mono::var(first)
+        .union(&Mono::var(second))
+        .union(&Mono::var(third))
+}
+
+// Of 200 names two are gone: of one word, of neighbouring words, and of words apart.
+#[test]
+fn pairs(rt: HostRuntime) -> Result<(), Fail> {
+    let near = ClosingPair::of(Closing::within(9, 200), Closing::within(5, 199));
+    let mut mono = triple(4, 8, 199);
+    near.close(&mut mono);
+    assert_eq!(rt; mono, triple(4, 7, 197));
+    let next = ClosingPair::of(Closing::within(64, 200), Closing::within(62, 199));
+    let mut mono = triple(63, 65, 128);
+    next.close(&mut mono);
+    assert_eq!(rt; mono, triple(62, 63, 126));
+    let far = ClosingPair::of(Closing::within(190, 200), Closing::within(3, 199));
+    let mut mono = triple(64, 189, 192);
+    far.close(&mut mono);
+    assert_eq!(rt; mono, triple(63, 188, 190));
+    assert_eq!(rt; mono.degree(), 3);
     Ok(())
 }

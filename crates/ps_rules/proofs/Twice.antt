@@ -5,7 +5,7 @@ use Rattle.std.proofs.lemmas.Bool.Decides.{nat_tests}
 use Rattle.std.proofs.lemmas.List.{take_more, take_all, get_or-set_other}
 use Rattle.std.proofs.Math.ListN.{length-set}
 use Rattle.std.proofs.Math.Seq.{take-suc-set}
-use Rattle.ps_mono.specs.Sets.{stands}
+use Rattle.ps_mono.specs.Sets.{stands, IsVarSet}
 use Rattle.ps_bool.specs.Polys.{occurs, IsPoly}
 use Rattle.ps_phase.specs.declared.terms.Term.{Term}
 use Rattle.ps_phase.specs.Phases.{phase_occurs, IsPhasePoly}
@@ -13,10 +13,9 @@ use Rattle.ps_phase.specs.Adding.{terms_where, terms_without}
 use Rattle.ps_phase.proofs.Scaling.{selected_form}
 use Rattle.ps_sum.specs.Names.{opened}
 use Rattle.ps_sum.specs.Outs.{outs_occur}
-use Rattle.ps_sum.proofs.Closings.{opened_above}
 use Rattle.ps_rules.specs.Closing.{closed_mono, closed_term, closed_terms, settled_terms, closed_monos, closed_polys}
 use Rattle.ps_rules.proofs.Moved.{Moved, moved, term_free}
-use Rattle.ps_rules.proofs.Closes.{polys_stay, bool_occurs_closed, poly_closed, stands_closed, without_push, without_skip, terms_push, form_closed, none_left}
+use Rattle.ps_rules.proofs.Closes.{polys_stay, bool_occurs_closed, poly_closed, stands_closed, set_closed, without_push, without_skip, terms_push, form_closed, none_left}
 
 -- neither stands there
 pub apart_high : (p q : Bool) → (not p && not q) ≡ true → p ≡ false
@@ -34,6 +33,20 @@ open_low low high h = grind (arith, nat_tests)
 
 pub low_stays : (low high : ℕ) (m : List ℕ) → low < high → stands high m ≡ false → stands low (closed_mono high m) ≡ stands low m
 low_stays low high m h n = stands_closed high low m n ∙ ap (λ v. stands v m) (open_low low high h)
+
+-- one monomial, closed up for both
+pub stands_twice : (low high w : ℕ) (m : List ℕ) → low < high → stands low m ≡ false → stands high m ≡ false → stands w (closed_mono low (closed_mono high m)) ≡ stands (opened high (opened low w)) m
+stands_twice low high w m h n k = stands_closed low w (closed_mono high m) (low_stays low high m h k ∙ n) ∙ stands_closed high (opened low w) m k
+
+pub set_twice : (low high : ℕ) (m : List ℕ) → low < high → stands low m ≡ false → stands high m ≡ false → IsVarSet m → IsVarSet (closed_mono low (closed_mono high m))
+set_twice low high m h n k s = set_closed low (closed_mono high m) (low_stays low high m h k ∙ n) (set_closed high m k s)
+
+-- the same by equal names
+pub name_is : (v u : ℕ) (m : List ℕ) → v ≡ u → stands u m ≡ false → stands v m ≡ false
+name_is v u m e h = ap (λ x. stands x m) e ∙ h
+
+pub pair_is : (l h low high : ℕ) (m n : List ℕ) → l ≡ low → h ≡ high → n ≡ closed_mono l (closed_mono h m) → n ≡ closed_mono low (closed_mono high m)
+pair_is l h low high m n a b e = e ∙ ap₂ (λ x y. closed_mono x (closed_mono y m)) a b
 
 abbrev pub twice : ℕ → ℕ → List Term → List Term
 twice low high ts = settled_terms low (settled_terms high ts)
@@ -115,10 +128,6 @@ twice_moved low high all xs mid i kept t z l e f ez s = moved i kept t z xs mid 
 pub twice_below : (low high w : ℕ) (all xs mid : List Term) (i kept : ℕ) (t z : Term) → i < length xs → t ≡ get_or xs i t → ((d : Term) → mid ≡ set xs kept (get_or xs i d)) → z ≡ get_or mid kept z → phase_occurs w all ≡ false → Twice low high all i kept xs → stands w z.mono ≡ false
 twice_below low high w all xs mid i kept t z l e f ez o s =
     ap (λ (x : Term). stands w x.mono) (twice_moved low high all xs mid i kept t z l e f ez s).same ∙ term_free w all i t t (omega (arith, s.size)) (e ∙ s.rest i t (omega arith)) o
-
--- the bound of the names is one lower once the high one is gone
-pub below_low : (high names w : ℕ) (m : List ℕ) → high < suc names → stands high m ≡ false → ((u : ℕ) → suc names ≤ u → stands u m ≡ false) → names ≤ w → stands w (closed_mono high m) ≡ false
-below_low high names w m h n f l = stands_closed high w m n ∙ f (opened high w) (opened_above high w (suc names) h (omega arith))
 
 -- closed up one after the other in each
 pub monos_twice : (low high : ℕ) (f : List (List ℕ)) → closed_monos low (closed_monos high f) ≡ map (λ m. closed_mono low (closed_mono high m)) f

@@ -7,7 +7,7 @@ ghost use Rattle.ps_sum.specs.Outs.{outs_occur};
 ghost use Rattle.ps_rules.specs.Closing.{closed_mono, settled_terms, closed_monos, closed_polys};
 
 use ps_bool::BoolPoly;
-use ps_mono::{Closing, Mono};
+use ps_mono::{Closing, ClosingPair, Mono};
 use ps_phase::{PhasePoly, Term};
 use ps_sum::Outputs;
 use std::alloc::Global;
@@ -24,18 +24,16 @@ fn close_mono(mono: &mut Mono, closing: Closing)
     closing.close(mono);
 }
 
-// Closes the names up for `high` and then for `low`, where neither stands in the monomial.
+// Closes the names up for both that are gone, where neither stands in the monomial.
 #[inline]
-fn close_twice(mono: &mut Mono, high: Closing, low: Closing)
-    requires order { low.gone < high.gone }
-    requires names { high.names ≡ low.names + 1 }
-    requires high { stands high.gone mono.old ≡ false }
-    requires low { stands low.gone mono.old ≡ false }
-    requires below { (w : ℕ) → high.names ≤ w → stands w mono.old ≡ false }
-    ensures { mono.new ≡ closed_mono low.gone (closed_mono high.gone mono.old) }
+fn close_twice(mono: &mut Mono, pair: &ClosingPair)
+    requires low { stands pair.now.low mono.old ≡ false }
+    requires high { stands pair.now.high mono.old ≡ false }
+    requires below { (w : ℕ) → pair.now.names ≤ w → stands w mono.old ≡ false }
+    ensures { mono.new ≡ closed_mono pair.now.low (closed_mono pair.now.high mono.old) }
 {
-    close_mono(mono, high);
-    close_mono(mono, low);
+    mono.known();
+    pair.close(mono);
 }
 
 // Copies term i to a place that does not come after it.
@@ -92,11 +90,12 @@ fn close_terms_twice(terms: &mut Vec<Term>, high: Closing, low: Closing)
     requires below { (u : ℕ) → high.names ≤ u → phase_occurs u terms.old.items ≡ false }
     ensures { terms.new.items ≡ settled_terms low.gone (settled_terms high.gone terms.old.items) }
 {
+    let pair = ClosingPair::of(high, low);
     let mut kept = 0;
     for i in 0..terms.len() {
         if is_apart(&terms[i].mono, high, low) {
             move_term(terms, i, kept);
-            close_twice(&mut terms[kept].mono, high, low);
+            close_twice(&mut terms[kept].mono, &pair);
             kept += 1;
         }
     }
@@ -173,8 +172,9 @@ fn close_monos_twice(monos: &mut Vec<Mono>, high: Closing, low: Closing)
     requires below { (u : ℕ) → high.names ≤ u → occurs u monos.old.items ≡ false }
     ensures { monos.new.items ≡ closed_monos low.gone (closed_monos high.gone monos.old.items) }
 {
+    let pair = ClosingPair::of(high, low);
     for mono in monos.iter_mut() {
-        close_twice(mono, high, low);
+        close_twice(mono, &pair);
     }
 }
 
