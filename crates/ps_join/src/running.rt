@@ -33,6 +33,9 @@ use std::marker::Model;
 // So many terms may wait beside a sum without any.
 const FEW: u64 = 16;
 
+// So many more may wait beside a sum of many terms, so that what a gate adds is never far from its place.
+const MANY: u64 = 1_024;
+
 /// A path sum, and terms that are still to be added to its phase, so that those of several gates are
 /// taken in together. Clauses see the sum with them. How many monomials the longest
 /// output has at most is kept beside it.
@@ -179,7 +182,7 @@ impl Running {
     fn relieved(self, alloc: Global) -> Result<Running, AllocError>
         ensures { IfOk result (λ s. s ≡ self) }
     {
-        if self.more.count() <= FEW + self.sum.phase.count() / 4 {
+        if self.more.count() <= FEW + (self.sum.phase.count() / 4).min(MANY) {
             return Ok(self);
         }
         Ok(Running::of(alloc, self.settled()?))
