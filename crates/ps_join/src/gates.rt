@@ -37,7 +37,6 @@ impl Gate {
 
     /// Which of its outputs it changes.
     pub fn change(&self) -> Change
-        ensures same { result ≡ self.now.change }
         ensures changes { IsChange self.now.sum.value.n self.now.sum.value.outs result }
     {
         self.change

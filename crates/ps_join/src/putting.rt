@@ -64,21 +64,13 @@ pub(crate) fn placed(
     }
 }
 
-// The greater count.
-fn greater(first: u64, second: u64) -> u64
-    ensures first { first ≤ result }
-    ensures second { second ≤ result }
-{
-    if first < second { second } else { first }
-}
-
 // How many monomials the longest output has.
 pub(crate) fn longest(outs: &[BoolPoly]) -> u64
     ensures { NoLonger result outs.now }
 {
     let mut most = 0;
     for output in outs {
-        most = greater(most, output.count());
+        most = most.max(output.count());
     }
     most
 }
@@ -91,6 +83,6 @@ pub(crate) fn longest_with(before: u64, outs: &[BoolPoly], place: Option<u32>) -
 {
     match place {
         None => before,
-        Some(q) => greater(before, outs[q as usize].count()),
+        Some(q) => before.max(outs[q as usize].count()),
     }
 }

@@ -116,13 +116,6 @@ impl Running {
         &self.sum.outs.polys()[q as usize]
     }
 
-    /// How many path variables.
-    pub fn path_variables(&self) -> u32
-        ensures { result ≡ self.now.m }
-    {
-        self.sum.m
-    }
-
     /// The outputs.
     pub fn outputs(&self) -> &[BoolPoly]
         ensures { result.now ≡ self.now.outs }

@@ -155,7 +155,6 @@ fn waiting(rt: HostRuntime) -> Result<(), Fail> {
     assert!(rt; sum.outputs().len() == 1 && sum.outputs()[0].count() == 2);
     let sum = joined(&rt, alloc, sum, &flip)?;
     let sum = joined(&rt, alloc, sum, &half)?;
-    assert!(rt; sum.path_variables() == 1);
     assert!(rt; sum.outputs().len() == 1);
     assert!(rt; sum.variables(0) == Mono::var(1));
     let wanted = "k=1 m=1 P=1/4+1/2*x0.y0 f=y0";

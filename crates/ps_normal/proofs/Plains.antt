@@ -325,7 +325,7 @@ plain_m n (U theta phi lambda q) L p l =
     w.values_are.m_is
 plain_m n (Cx c t) L p l = l.values_are.m_is
 
-pub no_variable : (S : PathSum) (s : Step) → S.m ≡ 0 → Applies S s → ⊥
+no_variable : (S : PathSum) (s : Step) → S.m ≡ 0 → Applies S s → ⊥
 no_variable S (Elim y0) e a = let h = a.inner.inside in omega (arith, h, e)
 no_variable S (Hh y0 y1) e a = let h = a.inner.inside in omega (arith, h, e)
 no_variable S (Omega y0) e a = let h = a.inner.inside in omega (arith, h, e)

@@ -114,9 +114,9 @@ fn two_hadamards(rt: HostRuntime) -> Result<(), Fail> {
     Ok(())
 }
 
-// Forged derivations that two Hadamards are no gate.
+// Forged derivations that two Hadamards are no gate: sums that are not those of the lines before.
 #[test]
-fn forged(rt: HostRuntime) -> Result<(), Fail> {
+fn forged_sums(rt: HostRuntime) -> Result<(), Fail> {
     let alloc = rt.alloc();
     let gates = [hadamard(), hadamard()];
     let rows = [
@@ -159,6 +159,19 @@ fn forged(rt: HostRuntime) -> Result<(), Fail> {
             "pathsum 1\nleaf a 0\nomega 65535\nend\n",
             Wanted::Rejected(3, Why::Redex),
         ),
+    ];
+    for (text, wanted) in &rows {
+        assert!(rt; tells(alloc, text.as_bytes(), &gates, &[], wanted)?);
+    }
+    Ok(())
+}
+
+// Forged derivations of the same, about the overlap and the end.
+#[test]
+fn forged_overlaps(rt: HostRuntime) -> Result<(), Fail> {
+    let alloc = rt.alloc();
+    let gates = [hadamard(), hadamard()];
+    let rows = [
         // one of the two, side b first, and an entry too many
         (
             "pathsum 1\nleaf a 0\nid b\noverlap\nend\n",
