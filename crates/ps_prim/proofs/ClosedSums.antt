@@ -38,14 +38,14 @@ vanishing_is_zero S x m i v z j =
     opposites_cancel _ _ (ap₂ (λ o r. when (same_bits o z) r) (v.idle y ly) (half_more _ _ (v.flips y ly) j) ∙ when-neg (same_bits (S.outs x (insert_at i false y)) z) (one (j -ℤ pos (S.phase x (insert_at i false y))))))
     ∙ total_zero m
 
-nothing : Number
+unfoldable pub nothing : Number
 nothing j = pos 0
 
-nothing_number : IsNumber nothing
+pub nothing_number : IsNumber nothing
 unfolding nothing
 nothing_number j = refl
 
-root2_nothing : (e : ℕ) → root2 e nothing ≡ nothing
+pub root2_nothing : (e : ℕ) → root2 e nothing ≡ nothing
 unfolding root2 sqrt2 nothing
 root2_nothing zero = refl
 root2_nothing (suc e) = ap sqrt2 (root2_nothing e)
@@ -64,7 +64,7 @@ unfolding when same_bits
 when_closed v = refl
 
 -- without path variables there is one path
-alone : (S : PathValues) (x : Truths) → S.m ≡ 0 → S.outs x [] ≡ [] → (j : ℤ) → signed_count S x [] j ≡ one (j -ℤ pos (S.phase x []))
+pub alone : (S : PathValues) (x : Truths) → S.m ≡ 0 → S.outs x [] ≡ [] → (j : ℤ) → signed_count S x [] j ≡ one (j -ℤ pos (S.phase x []))
 unfolding signed_count
 alone S x m o j = one_path S.m m _ ∙ ap (λ w. when (same_bits w []) (one (j -ℤ pos (S.phase x [])))) o ∙ when_closed _
 

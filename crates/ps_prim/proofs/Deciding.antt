@@ -2,6 +2,7 @@
 use Rattle.std.proofs.Common.{◌≡◌, ◌≢◌, ℕ, zero, suc, ◌^◌, refl, ap, ◌∙◌, arith, true, false, List, [], ◌∷◌, length, ◌⊎◌, inl, inr}
 use Rattle.std.proofs.Math.IntN.{ℤ, pos, negsuc, ◌+ℤ◌, ◌*ℤ◌, neg_ℤ, zero-*ℤ}
 use Rattle.std.proofs.lemmas.Int.{ints}
+use Rattle.ps_ring.specs.Numbers.{IsNumber}
 use Rattle.ps_ring.specs.Inner.{window, inner}
 use Rattle.ps_ring.specs.Sums.{total}
 use Rattle.ps_ring.proofs.Products.{mul_opposite}
@@ -41,13 +42,14 @@ column_some n v h =
 equal_none : (a b q : ℤ) → a ≡ q *ℤ b → a +ℤ neg_ℤ q *ℤ b ≡ pos 0
 equal_none a b q e = let m = mul_opposite q b in omega (arith, ints)
 
-pub same_or_differs : (n : ℕ) (A B : List Prim) (x : Truths) → SameAt n A B x ⊎ DiffersAt n A B x
-same_or_differs n A B x =
-    let p : ℤ = pos (2 ^ turns B) in
-    let q : ℤ = pos (2 ^ turns A) in
-    let D : Column = λ z i. p *ℤ amplitude A x z i +ℤ neg_ℤ q *ℤ amplitude B x z i in
+pub columns_same_or_differ : (n : ℕ) (p q : ℤ) (v w : Column) → ((z : Truths) → IsNumber (v z)) → ((z : Truths) → IsNumber (w z))
+    → ((z : Truths) → length z ≡ n → (j : ℤ) → p *ℤ v z j ≡ q *ℤ w z j) ⊎ ((z : Truths) × (length z ≡ n) × ((j : ℤ) × (p *ℤ v z j ≢ q *ℤ w z j)))
+columns_same_or_differ n p q v w hv hw =
+    let D : Column = λ z i. p *ℤ v z i +ℤ neg_ℤ q *ℤ w z i in
     elim (none_or_some (inner_over n D D (pos 0))) [
-      | inl e ↦ inl (λ z lz j. apart_none (p *ℤ amplitude A x z j) (amplitude B x z j) q
-          (column_none n D (λ y. difference_number p (neg_ℤ q) _ _ (amplitude_number A x y) (amplitude_number B x y)) e z lz j))
-      | inr d ↦ let r = column_some n D d in inr (r.0, r.1, (r.2.0, λ e. r.2.1 (equal_none (p *ℤ amplitude A x r.0 r.2.0) (amplitude B x r.0 r.2.0) q e)))
+      | inl e ↦ inl (λ z lz j. apart_none (p *ℤ v z j) (w z j) q (column_none n D (λ y. difference_number p (neg_ℤ q) _ _ (hv y) (hw y)) e z lz j))
+      | inr d ↦ let r = column_some n D d in inr (r.0, r.1, (r.2.0, λ e. r.2.1 (equal_none (p *ℤ v r.0 r.2.0) (w r.0 r.2.0) q e)))
     ]
+
+pub same_or_differs : (n : ℕ) (A B : List Prim) (x : Truths) → SameAt n A B x ⊎ DiffersAt n A B x
+same_or_differs n A B x = columns_same_or_differ n (pos (2 ^ turns B)) (pos (2 ^ turns A)) (amplitude A x) (amplitude B x) (amplitude_number A x) (amplitude_number B x)

@@ -133,14 +133,18 @@ difference_number p q c d h k j = let a = scaled_number p c h j in let b = scale
 pub apart_none : (a b q : ℤ) → a +ℤ neg_ℤ q *ℤ b ≡ pos 0 → a ≡ q *ℤ b
 apart_none a b q e = let m = mul_opposite q b in omega (arith, ints)
 
+-- columns of such inner products with themselves and with one another are equal, as far as they are scaled
+pub columns_equal : (n p q : ℕ) (v w : Column) → ((z : Truths) → IsNumber (v z)) → ((z : Truths) → IsNumber (w z)) → inner_over n v v (pos 0) ≡ pos (q * q) → inner_over n w w (pos 0) ≡ pos (p * p) → inner_over n v w (pos 0) ≡ pos (q * p)
+    → (z : Truths) → length z ≡ n → (j : ℤ) → pos p *ℤ v z j ≡ pos q *ℤ w z j
+columns_equal n p q v w hv hw vv ww vw z lz j =
+    apart_none (pos p *ℤ v z j) (w z j) (pos q)
+    (column_none n (λ y i. pos p *ℤ v y i +ℤ neg_ℤ (pos q) *ℤ w y i) (λ y. difference_number (pos p) (neg_ℤ (pos q)) _ _ (hv y) (hw y)) (difference_none n p q v w vv ww vw) z lz j)
+
+-- a column of inner product 1 with itself, as far as it is scaled
+pub own_first : (n : ℕ) (A : List Prim) (x : Truths) → AllWithin n A → length x ≡ n → inner_over n (amplitude A x) (amplitude A x) (pos 0) ≡ pos (2 ^ turns A * 2 ^ turns A)
+own_first n A x h l = own n A x h l (pos 0) ∙ times_one _ ∙ ap pos (pow-add 2 (turns A) (turns A))
+
 pub one_is_same : OneIsSame
 one_is_same n A B x hA hB l e z lz j =
-    let p = 2 ^ turns B in
-    let q = 2 ^ turns A in
-    let aa = own n A x hA l (pos 0) ∙ times_one _ ∙ ap pos (pow-add 2 (turns A) (turns A)) in
-    let bb = own n B x hB l (pos 0) ∙ times_one _ ∙ ap pos (pow-add 2 (turns B) (turns B)) in
-    let ab = e (pos 0) ∙ times_one _ ∙ ap pos (pow-add 2 (turns A) (turns B)) in
-    apart_none (pos p *ℤ amplitude A x z j) (amplitude B x z j) (pos q)
-    (column_none n (λ y i. pos p *ℤ amplitude A x y i +ℤ neg_ℤ (pos q) *ℤ amplitude B x y i)
-    (λ y. difference_number (pos p) (neg_ℤ (pos q)) _ _ (amplitude_number A x y) (amplitude_number B x y))
-    (difference_none n p q (amplitude A x) (amplitude B x) aa bb ab) z lz j)
+    columns_equal n (2 ^ turns B) (2 ^ turns A) (amplitude A x) (amplitude B x) (amplitude_number A x) (amplitude_number B x) (own_first n A x hA l) (own_first n B x hB l)
+    (e (pos 0) ∙ times_one _ ∙ ap pos (pow-add 2 (turns A) (turns B))) z lz j

@@ -12,3 +12,5 @@ pub mod Different
 pub mod Deciding
 pub mod Overlaps
 pub mod ClosedSums
+pub mod Phases
+pub mod MapWords

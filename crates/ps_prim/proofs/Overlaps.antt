@@ -21,7 +21,7 @@ use Rattle.ps_prim.specs.Overlaps.{OverlapIsInner, OverlapDenotes, IsOne, Overla
 use Rattle.ps_ring.specs.Joins.{pairing, OverlapSum}
 use Rattle.ps_prim.proofs.Columns.{amplitude_number}
 use Rattle.ps_prim.proofs.Equal.{one_is_same}
-use Rattle.ps_prim.proofs.Different.{same_is_one, one_is_same_scaled}
+use Rattle.ps_prim.proofs.Different.{same_is_one, same_scaled_even}
 use Rattle.ps_prim.proofs.Deciding.{same_or_differs}
 
 pairing_none : (n : ℕ) (f g : Truths) (c : Number) (j : ℤ) → total n (λ w. c (j -ℤ pos (0 + pairing w f g))) ≡ total n (λ w. c (j -ℤ pos (pairing w f g)))
@@ -172,7 +172,7 @@ overlap_denotes n S1 S2 S A B e d1 d2 x l =
     same_trans S.k (S1.k +ℤ S2.k) _ (signed_count S x []) (inner_over n (signed_count S1 x) (signed_count S2 x)) _ (signed_number S x []) (over_number n (amplitude A x) (amplitude B x) (amplitude_number B x))
     (overlap_is_inner n S1 S2 S e d1.width d2.width x l) (counts_denote n S1 S2 A B d1 d2 x l)
 
-same_zero : (u : ℕ) (c d : Number) → SameScaled (pos u) c (pos 0) d → (j : ℤ) → c j ≡ root2 u d j
+pub same_zero : (u : ℕ) (c d : Number) → SameScaled (pos u) c (pos 0) d → (j : ℤ) → c j ≡ root2 u d j
 unfolding above root2
 same_zero u c d h j =
     let a : 0 - u ≡ 0 = omega arith in
@@ -191,7 +191,7 @@ overlap_one n S1 S2 S A B e d1 d2 hA hB x l h = one_is_same n A B x hA hB l (λ 
 pub overlap_same : (n : ℕ) (S1 S2 S : PathValues) (A B : List Prim) → OverlapSum n S1 S2 S → Denotes n S1 A → Denotes n S2 B → AllWithin n A → AllWithin n B → (x : Truths) → length x ≡ n → SameAt n A B x → IsOne S x
 overlap_same n S1 S2 S A B e d1 d2 hA hB x l s =
     same_trans S.k (pos ((turns A + turns A) + (turns B + turns B))) (pos 0) _ (inner_over n (amplitude A x) (amplitude B x)) _ (signed_number S x []) one_number (overlap_denotes n S1 S2 S A B e d1 d2 x l)
-    (one_is_same_scaled (turns A) (turns B) (inner_over n (amplitude A x) (amplitude B x)) (over_number n (amplitude A x) (amplitude B x) (amplitude_number B x)) (same_is_one n A B x hA hB l s))
+    (same_scaled_even (turns A) (turns B) (inner_over n (amplitude A x) (amplitude B x)) one (over_number n (amplitude A x) (amplitude B x) (amplitude_number B x)) one_number (same_is_one n A B x hA hB l s))
 
 pub overlap_not_one : OverlapNotOne
 overlap_not_one n S1 S2 S A B e d1 d2 hA hB x l other =

@@ -1,10 +1,10 @@
--- Closed path sums: when they stand for 0, and when those without path variables stand for 1.
+-- Closed path sums: when they stand for 0, and when those without path variables stand for 1, or for a phase.
 use Rattle.std.specs.Prelude.{ℕ, suc, ◌≡◌, ◌≤◌, ◌+◌, ◌%◌, true, false, [], length, cond, ◌&&◌, Bool, ◌++◌}
 use Rattle.std.proofs.Math.IntN.{ℤ, pos}
 use Rattle.ps_ring.specs.Sums.{insert_at, PathValues, signed_count}
 use Rattle.ps_ring.specs.Readings.{Assignment, read_sum, Ignores}
 use Rattle.ps_prim.specs.Amplitudes.{Truths, bit}
-use Rattle.ps_prim.specs.Overlaps.{IsOne}
+use Rattle.ps_prim.specs.Overlaps.{IsOne, IsTurn}
 
 -- at x the path variable at place i turns the phase by half a turn, whatever the other m path variables are,
 -- and no output knows it
@@ -40,3 +40,14 @@ PlainIsOne = (S : PathValues) (x : Truths) → S.m ≡ 0 → S.outs x [] ≡ [] 
 
 abbrev pub OneIsPlain : Type 0
 OneIsPlain = (S : PathValues) (x : Truths) → S.m ≡ 0 → S.outs x [] ≡ [] → IsOne S x → (S.k ≡ pos 0) × (S.phase x [] % 4294967296 ≡ 0)
+
+-- 0 is no phase
+abbrev pub ZeroIsNoTurn : Type 0
+ZeroIsNoTurn = (S : PathValues) (x : Truths) (p : ℕ) → ((j : ℤ) → signed_count S x [] j ≡ pos 0) → ¬ (IsTurn S x p)
+
+-- without path variables the sum is a phase just where its scale is 0, and it is its own
+abbrev pub PlainIsTurn : Type 0
+PlainIsTurn = (S : PathValues) (x : Truths) (p : ℕ) → S.m ≡ 0 → S.outs x [] ≡ [] → S.k ≡ pos 0 → S.phase x [] % 4294967296 ≡ p % 4294967296 → IsTurn S x p
+
+abbrev pub TurnIsPlain : Type 0
+TurnIsPlain = (S : PathValues) (x : Truths) (p : ℕ) → S.m ≡ 0 → S.outs x [] ≡ [] → IsTurn S x p → (S.k ≡ pos 0) × (S.phase x [] % 4294967296 ≡ p % 4294967296)

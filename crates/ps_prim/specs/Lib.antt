@@ -8,3 +8,4 @@ pub mod Overlaps
 pub mod Items
 pub mod Closed
 pub mod AmplitudeLaws
+pub mod MapLaws

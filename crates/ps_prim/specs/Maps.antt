@@ -1,6 +1,7 @@
 -- When two lists of prims are one linear map on n qubits, and where they are not.
 use Rattle.std.specs.Prelude.{ℕ, ◌≡◌, ◌≢◌, ◌<◌, ◌^◌, List, [], ◌∷◌, length}
-use Rattle.std.proofs.Math.IntN.{ℤ, pos, ◌*ℤ◌}
+use Rattle.std.specs.List.{Any}
+use Rattle.std.proofs.Math.IntN.{ℤ, pos, ◌-ℤ◌, ◌*ℤ◌}
 use Rattle.ps_prim.specs.declared.prims.Primitive.{Primitive as Prim}
 use Rattle.ps_prim.specs.declared.prims.Primitive.TheVariants.{U, Cx}
 use Rattle.ps_prim.specs.Amplitudes.{Truths, amplitude, turns}
@@ -26,3 +27,20 @@ SameMap n A B = (x : Truths) → length x ≡ n → SameAt n A B x
 -- some amplitude at the input x differs
 abbrev pub DiffersAt : ℕ → List Prim → List Prim → Truths → Type 0
 DiffersAt n A B x = (z : Truths) × (length z ≡ n) × ((j : ℤ) × (pos (2 ^ turns B) *ℤ amplitude A x z j ≢ pos (2 ^ turns A) *ℤ amplitude B x z j))
+
+-- ---- up to a global phase of p parts of 2^32 of a turn
+-- the amplitudes of B at the input x are those of A turned by p
+abbrev pub SamePhaseAt : ℕ → List Prim → List Prim → ℕ → Truths → Type 0
+SamePhaseAt n A B p x = (z : Truths) → length z ≡ n → (j : ℤ) → pos (2 ^ turns A) *ℤ amplitude B x z j ≡ pos (2 ^ turns B) *ℤ amplitude A x z (j -ℤ pos p)
+
+-- B is the linear map of A turned by p
+abbrev pub SamePhase : ℕ → List Prim → List Prim → ℕ → Type 0
+SamePhase n A B p = (x : Truths) → length x ≡ n → SamePhaseAt n A B p x
+
+-- some amplitude of B at the input x is not that of A turned by p
+abbrev pub PhaseDiffersAt : ℕ → List Prim → List Prim → ℕ → Truths → Type 0
+PhaseDiffersAt n A B p x = (z : Truths) × (length z ≡ n) × ((j : ℤ) × (pos (2 ^ turns A) *ℤ amplitude B x z j ≢ pos (2 ^ turns B) *ℤ amplitude A x z (j -ℤ pos p)))
+
+-- by whatever A is turned, at one of these inputs some amplitude of B differs from it
+abbrev pub PhaseDiffers : ℕ → List Prim → List Prim → List Truths → Type 0
+PhaseDiffers n A B inputs = (p : ℕ) → Any (PhaseDiffersAt n A B p) inputs

@@ -6,7 +6,7 @@ use Rattle.ps_ring.specs.Sums.{PathValues, signed_count}
 use Rattle.ps_ring.specs.Joins.{OverlapSum, IsOpen}
 use Rattle.ps_prim.specs.declared.prims.Primitive.{Primitive as Prim}
 use Rattle.ps_prim.specs.Amplitudes.{Truths, amplitude, turns}
-use Rattle.ps_prim.specs.Maps.{AllWithin, SameAt, DiffersAt}
+use Rattle.ps_prim.specs.Maps.{AllWithin, SameAt, DiffersAt, SamePhaseAt, PhaseDiffersAt}
 use Rattle.ps_prim.specs.Columns.{inner_over}
 use Rattle.ps_prim.specs.Sums.{Denotes}
 
@@ -37,3 +37,21 @@ OverlapNotOne = (n : ℕ) (S1 S2 S : PathValues) (A B : List Prim) → OverlapSu
 -- a phase over a power of the root of 2 is 1 only as itself
 abbrev pub PhaseIsOne : Type 0
 PhaseIsOne = (k : ℤ) (p : ℕ) → SameScaled k (λ j. one (j -ℤ pos p)) (pos 0) one → (k ≡ pos 0) × (p % 4294967296 ≡ 0)
+
+-- the closed sum stands for the phase p at x
+abbrev pub IsTurn : PathValues → Truths → ℕ → Type 0
+IsTurn S x p = SameScaled S.k (signed_count S x []) (pos 0) (λ j. one (j -ℤ pos p))
+
+-- an overlap that stands for a phase shows that the one column is the other turned by it
+abbrev pub OverlapTurn : Type 0
+OverlapTurn = (n : ℕ) (S1 S2 S : PathValues) (A B : List Prim) → OverlapSum n S1 S2 S → Denotes n S1 A → Denotes n S2 B → AllWithin n A → AllWithin n B → (x : Truths) → length x ≡ n
+    → (p : ℕ) → IsTurn S x p → SamePhaseAt n A B p x
+
+-- and one that does not shows that it is not
+abbrev pub OverlapNoTurn : Type 0
+OverlapNoTurn = (n : ℕ) (S1 S2 S : PathValues) (A B : List Prim) → OverlapSum n S1 S2 S → Denotes n S1 A → Denotes n S2 B → AllWithin n A → AllWithin n B → (x : Truths) → length x ≡ n
+    → (p : ℕ) → ¬ (IsTurn S x p) → PhaseDiffersAt n A B p x
+
+-- a phase over a power of the root of 2 is a phase only as itself
+abbrev pub PhaseIsTurn : Type 0
+PhaseIsTurn = (k : ℤ) (p q : ℕ) → SameScaled k (λ j. one (j -ℤ pos p)) (pos 0) (λ j. one (j -ℤ pos q)) → (k ≡ pos 0) × (p % 4294967296 ≡ q % 4294967296)

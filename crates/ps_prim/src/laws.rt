@@ -2,10 +2,11 @@
 
 ghost use Rattle.ps_prim.specs.Plain.{PlainEmpty, PlainCx, PlainTurn, PlainSame, PlainOutputDiffers, PlainPhaseDiffers};
 ghost use Rattle.ps_prim.specs.AmplitudeLaws.{AmplitudeEmpty, AmplitudeLast, AmplitudeAppend, TurnsAppend, AmplitudeIsNumber};
-ghost use Rattle.ps_prim.specs.Closed.{VanishRead, VanishingIsZero, ZeroIsNotOne, PlainIsOne, OneIsPlain};
+ghost use Rattle.ps_prim.specs.MapLaws.{SameNowhereDiffers, PhaseNowhereDiffers, SameIsNoPhase, NoPhaseIsSame, PhaseDiffersDiffers};
+ghost use Rattle.ps_prim.specs.Closed.{VanishRead, VanishingIsZero, ZeroIsNotOne, PlainIsOne, OneIsPlain, ZeroIsNoTurn, PlainIsTurn, TurnIsPlain};
 ghost use Rattle.ps_prim.specs.Columns.{PrimKeepsInner, OwnInnerIsOne, OneIsSame, SameIsOne};
 ghost use Rattle.ps_prim.specs.SumLaws.{PlainDenotes, IdentityDenotes, LeafDenotes, JoinDenotes};
-ghost use Rattle.ps_prim.specs.Overlaps.{OverlapIsInner, OverlapDenotes, OverlapOne, OverlapNotOne, PhaseIsOne};
+ghost use Rattle.ps_prim.specs.Overlaps.{OverlapIsInner, OverlapDenotes, OverlapOne, OverlapNotOne, PhaseIsOne, OverlapTurn, OverlapNoTurn, PhaseIsTurn};
 
 /// The amplitude of a list of gates by its last gate, and that it is a number.
 pub fn amplitude_law()
@@ -14,6 +15,16 @@ pub fn amplitude_law()
     ensures append { AmplitudeAppend }
     ensures turns { TurnsAppend }
     ensures number { AmplitudeIsNumber }
+{}
+
+/// What is one map differs nowhere, and what is one map up to a phase is not told apart by inputs. One
+/// map is one map up to no phase, and an input at which no phase will do is one at which two lists differ.
+pub fn map_law()
+    ensures same { SameNowhereDiffers }
+    ensures phase { PhaseNowhereDiffers }
+    ensures exact { SameIsNoPhase }
+    ensures unturned { NoPhaseIsSame }
+    ensures differs { PhaseDiffersDiffers }
 {}
 
 /// Controlled nots and `U` at theta 0 only permute the basis inputs and turn phases, and so two
@@ -61,4 +72,15 @@ pub fn closed_law()
     ensures zero { ZeroIsNotOne }
     ensures plain { PlainIsOne }
     ensures one { OneIsPlain }
+{}
+
+/// The number of an overlap tells whether the one column is the other turned by a phase. A closed sum
+/// without path variables stands for a phase exactly where its scale is 0; one that stands for 0 does not.
+pub fn phase_law()
+    ensures turn { OverlapTurn }
+    ensures no_turn { OverlapNoTurn }
+    ensures phase { PhaseIsTurn }
+    ensures plain { PlainIsTurn }
+    ensures own { TurnIsPlain }
+    ensures zero { ZeroIsNoTurn }
 {}
