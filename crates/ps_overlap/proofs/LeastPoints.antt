@@ -1,10 +1,12 @@
 -- The points at which a closed sum shows that it is not 1.
 use Rattle.std.proofs.Common.{SFits, to_z, of_z, w32, ◌≤ℤ◌, ◌≡◌, ◌≢◌, ℕ, zero, suc, ◌+◌, ◌-◌, ◌%◌, refl, ap, sym, ◌∙◌, subst, arith, ◌<◌, ◌≤◌, Bool, true, false, nat_lt, List, [], ◌∷◌, ◌++◌, length, get_or, Ordering, Less, Equal, Greater, ◌⊎◌, inl, inr}
-use Rattle.std.proofs.Math.IntN.{ℤ, pos, negsuc}
+use Rattle.std.proofs.Math.IntN.{ℤ, pos, negsuc, ◌-ℤ◌}
 use Rattle.std.proofs.lemmas.Int.{ints, to_z-of_z}
 use Rattle.std.proofs.Math.ListN.{get_or-append}
 use Rattle.std.proofs.lemmas.Bool.Decides.{nat_tests}
-use Rattle.ps_ring.specs.Truths.{Truths, bit}
+use Rattle.ps_ring.specs.Truths.{Truths, bit, same_bits}
+use Rattle.ps_ring.specs.Numbers.{one, when}
+use Rattle.ps_ring.proofs.Totals.{total_ext, total_zero}
 use Rattle.ps_ring.specs.Sums.{insert_at, signed_count}
 use Rattle.ps_mono.specs.Sets.{mono_cmp, stands, Below}
 use Rattle.ps_mono.proofs.Orders.{mono_equal, mono_flip, mono_trans, never_self}
@@ -17,8 +19,9 @@ use Rattle.ps_phase.proofs.Scaling.{selected_form}
 use Rattle.ps_phase.proofs.Unique.{value_at_least}
 use Rattle.ps_phase.proofs.Values.{phase_agree}
 use Rattle.ps_prim.specs.Closed.{VanishesAt, VanishReading}
-use Rattle.ps_prim.specs.Overlaps.{IsOne}
+use Rattle.ps_prim.specs.Overlaps.{IsOne, IsTurn}
 use Rattle.ps_prim.proofs.ClosedSums.{vanish_read, vanishing_is_zero, zero_is_not_one, one_is_plain}
+use Rattle.ps_prim.proofs.Phases.{zero_is_no_turn}
 use Rattle.ps_sum.specs.declared.sums.PathSum.{PathSum}
 use Rattle.ps_sum.specs.Outs.{values}
 use Rattle.ps_sum.specs.Sums.{path_values}
@@ -122,23 +125,41 @@ vanishes_at S y bits o v p =
     let r = vanish_read S.n (S.m - 1) y S.k (phase_value S.phase) (phase_value (terms_without (S.n + y) S.phase)) (values S.outs) (bool_value (quotients (S.n + y) (path_terms S y))) (point S.n bits) (point_length S.n bits) (vanish_reading S y bits o v p) in
     record { m_is = (let h : y < S.m = v.inside in omega arith); at = r.at; flips = r.flips; idle = r.idle }
 
+-- a sum with an output is 0 at no output
+spoken_zero : (S : PathSum) (x : Truths) (f : List (List ℕ)) (fs : List (List (List ℕ))) → S.outs ≡ f ∷ fs → (j : ℤ) → signed_count (path_values S) x [] j ≡ pos 0
+unfolding signed_count values same_bits when
+spoken_zero S x f fs e j = total_ext S.m _ (λ y. pos 0) (λ y l. ap (λ (o : List (List (List ℕ))). when (same_bits (values o (bit (x ++ y))) []) (one (j -ℤ pos (phase_value S.phase (bit (x ++ y)))))) e) ∙ total_zero S.m
+
+-- so a fact on its number there is to be shown of closed sums alone
+by_outs : (S : PathSum) (P : Type 0) → (S.outs ≡ [] → P) → ((f : List (List ℕ)) (fs : List (List (List ℕ))) → S.outs ≡ f ∷ fs → P) → P
+by_outs S P closed spoken = by S.outs refl
+  where
+    by : (o : List (List (List ℕ))) → S.outs ≡ o → P
+    by [] e = closed e
+    by (f ∷ fs) e = spoken f fs e
+
 -- where a variable vanishes, the sum is 0 at its point
-pub vanishing_zero : (S : PathSum) (y : ℕ) (bits : List ℕ) → S.outs ≡ [] → Vanishes S y → IsLeastPoint S y bits → (j : ℤ) → signed_count (path_values S) (point S.n bits) [] j ≡ pos 0
-vanishing_zero S y bits o v p j = vanishing_is_zero (path_values S) (point S.n bits) (S.m - 1) y (vanishes_at S y bits o v p) [] j
+pub vanishing_zero : (S : PathSum) (y : ℕ) (bits : List ℕ) → Vanishes S y → IsLeastPoint S y bits → (j : ℤ) → signed_count (path_values S) (point S.n bits) [] j ≡ pos 0
+vanishing_zero S y bits v p j =
+    by_outs S (signed_count (path_values S) (point S.n bits) [] j ≡ pos 0) (λ o. vanishing_is_zero (path_values S) (point S.n bits) (S.m - 1) y (vanishes_at S y bits o v p) [] j) (λ f fs e. spoken_zero S (point S.n bits) f fs e j)
 
 -- and so not 1
-pub vanishing_not_one : (S : PathSum) (y : ℕ) (bits : List ℕ) → S.outs ≡ [] → Vanishes S y → IsLeastPoint S y bits → ¬ (IsOne (path_values S) (point S.n bits))
-vanishing_not_one S y bits o v p = zero_is_not_one (path_values S) (point S.n bits) (vanishing_zero S y bits o v p)
+pub vanishing_not_one : (S : PathSum) (y : ℕ) (bits : List ℕ) → Vanishes S y → IsLeastPoint S y bits → ¬ (IsOne (path_values S) (point S.n bits))
+vanishing_not_one S y bits v p = zero_is_not_one (path_values S) (point S.n bits) (vanishing_zero S y bits v p)
+
+-- and no phase
+pub vanishing_no_turn : (S : PathSum) (y : ℕ) (bits : List ℕ) (p : ℕ) → Vanishes S y → IsLeastPoint S y bits → ¬ (IsTurn (path_values S) (point S.n bits) p)
+vanishing_no_turn S y bits p v l = zero_is_no_turn (path_values S) (point S.n bits) p (vanishing_zero S y bits v l)
 
 -- ---- the first point
-below_all : (n u : ℕ) (b : Bool) → (n ≤ u → b ≡ false) → b ≡ true → u < n
+pub below_all : (n u : ℕ) (b : Bool) → (n ≤ u → b ≡ false) → b ≡ true → u < n
 below_all n u b h e = by (nat_lt u n) refl
   where
     by : (t : Bool) → nat_lt u n ≡ t → u < n
     by true l = grind (arith, nat_tests)
     by false l = absurd (clash e (h (grind (arith, nat_tests))))
 
-turn_there : (n : ℕ) (ts : List Term) (bits : List ℕ) → IsPhasePoly ts → ((v : ℕ) → n + 0 ≤ v → phase_occurs v ts ≡ false) → IsLeastMono ts bits → phase_value ts (bit (point n bits ++ [])) % 4294967296 ≡ 0 → ⊥
+pub turn_there : (n : ℕ) (ts : List Term) (bits : List ℕ) → IsPhasePoly ts → ((v : ℕ) → n + 0 ≤ v → phase_occurs v ts ≡ false) → IsLeastMono ts bits → phase_value ts (bit (point n bits ++ [])) % 4294967296 ≡ 0 → ⊥
 turn_there n [] bits p b q e = absurd q.one_of
 turn_there n (t ∷ ts) bits p b q e =
     let f = first_mono_least t ts p in
@@ -151,11 +172,15 @@ turn_there n (t ∷ ts) bits p b q e =
     nz (omega arith)
 
 -- without path variables the sum is not 1 there
-pub first_point_not_one : (S : PathSum) (bits : List ℕ) → S.outs ≡ [] → S.m ≡ 0 → IsFirstPoint S bits → ¬ (IsOne (path_values S) (point S.n bits))
+closed_not_one : (S : PathSum) (bits : List ℕ) → S.outs ≡ [] → S.m ≡ 0 → IsFirstPoint S bits → ¬ (IsOne (path_values S) (point S.n bits))
 unfolding values
-first_point_not_one S bits o m p h =
+closed_not_one S bits o m p h =
     let r = one_is_plain (path_values S) (point S.n bits) m (ap (λ (fs : List (List (List ℕ))). values fs (bit (point S.n bits ++ []))) o) h in
     turn_there S.n S.phase bits S.formed.0 (λ v l. S.phase_below v (let e : S.m ≡ 0 = m in omega arith)) (p.unscaled r.0) r.1
+
+pub first_point_not_one : (S : PathSum) (bits : List ℕ) → S.m ≡ 0 → IsFirstPoint S bits → ¬ (IsOne (path_values S) (point S.n bits))
+first_point_not_one S bits m p =
+    by_outs S (¬ (IsOne (path_values S) (point S.n bits))) (λ o. closed_not_one S bits o m p) (λ f fs e. zero_is_not_one (path_values S) (point S.n bits) (spoken_zero S (point S.n bits) f fs e))
 
 -- what the code of `first_point` answers
 pub unscaled_point : (S : PathSum) (ts : List Term) (t : Term) (bits : List ℕ) → S.k ≡ pos 0 → ts ≡ S.phase → IsPhasePoly S.phase → (S.phase ≡ [] → ⊥) → t ≡ get_or ts 0 t → bits ≡ t.mono → IsFirstPoint S bits

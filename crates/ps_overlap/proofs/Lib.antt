@@ -8,3 +8,4 @@ pub mod PhaseOf
 pub mod Halves
 pub mod FirstTerms
 pub mod Made
+pub mod Turning

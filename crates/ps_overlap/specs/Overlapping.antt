@@ -1,4 +1,4 @@
--- The overlap of two path sums, and at which inputs a closed sum shows that it is not 1.
+-- The overlap of two path sums, and at which inputs a closed sum shows that it is not 1, or no phase.
 use Rattle.std.specs.Prelude.{ℕ, ◌≡◌, ◌≢◌, ◌<◌, ◌+◌, true, not, nat_eq, List, [], ◌∷◌, filter, ◌⊎◌, pos}
 use Rattle.std.specs.declared.cmp.Ordering.TheVariants.{Less}
 use Rattle.ps_ring.specs.Truths.{Truths}
@@ -6,7 +6,7 @@ use Rattle.ps_ring.specs.Joins.{OverlapSum}
 use Rattle.ps_ring.specs.Readings.{taken}
 use Rattle.ps_mono.specs.Sets.{mono_cmp, stands, Below}
 use Rattle.ps_phase.specs.declared.terms.Term.{Term}
-use Rattle.ps_phase.specs.Phases.{phase_occurs}
+use Rattle.ps_phase.specs.Phases.{phase_occurs, coefficient}
 use Rattle.ps_phase.specs.Adding.{terms_with}
 use Rattle.ps_sum.specs.declared.sums.PathSum.{PathSum}
 use Rattle.ps_sum.specs.declared.faults.Passed.{Passed}
@@ -77,3 +77,19 @@ pub record IsLeastMono (phase : List Term) (bits : List ℕ) : Type 0 where
 pub record IsFirstPoint (S : PathSum) (bits : List ℕ) : Type 0 where
   pub scaled : S.k ≢ pos 0 → bits ≡ []
   pub unscaled : S.k ≡ pos 0 → IsLeastMono S.phase bits
+
+-- ---- a phase that is one at all inputs, and where it turns
+-- no term has a variable, and p is the coefficient of the one without, or 0
+pub record IsConstant (phase : List Term) (p : ℕ) : Type 0 where
+  pub alone : EachTerm (λ t. t.mono ≡ []) phase
+  pub value : p ≡ coefficient [] phase
+
+-- some term has a variable
+abbrev pub HasVariable : List Term → Type 0
+HasVariable phase = SomeTerm (λ t. t.mono ≢ []) phase
+
+-- the bits are the variables of the phase's least monomial that has one
+pub record IsTurningPoint (phase : List Term) (bits : List ℕ) : Type 0 where
+  pub some : bits ≢ []
+  pub one_of : SomeTerm (λ t. t.mono ≡ bits) phase
+  pub least : EachTerm (λ t. t.mono ≢ [] → mono_cmp t.mono bits ≢ Less) phase

@@ -155,3 +155,22 @@ fn first_points(rt: HostRuntime) -> Result<(), Fail> {
     assert!(rt; !at.get(0) && at.get(1) && !at.get(3));
     Ok(())
 }
+
+// One phase at all inputs, also none; and of a constant, x1 and both inputs the second.
+#[test]
+fn turning_points(rt: HostRuntime) -> Result<(), Fail> {
+    let alloc = rt.alloc();
+    let none = closed(alloc, (2, 0, 0), &[])?.expect(&rt, "a sum");
+    assert!(rt; constant_phase(&none) == Some(Phase::of(0)));
+    let sum = closed(alloc, (2, 0, 0), &[(0, 3)])?.expect(&rt, "a sum");
+    assert!(rt; constant_phase(&sum) == Some(Phase::of(3 << 29)));
+    let sum = closed(alloc, (2, 0, 0), &[(0, 3), (2, 1), (3, 1)])?.expect(&rt, "a sum");
+    let mut at = Bits::zero();
+    at.set(3, true);
+    match constant_phase(&sum) {
+        Some(_) => assert!(rt; false),
+        None => turning_point(&sum, &mut at),
+    }
+    assert!(rt; !at.get(0) && at.get(1) && !at.get(3));
+    Ok(())
+}
