@@ -60,16 +60,16 @@ same_size a b c d h k e f r = powers_same a b (sym (size a c h e) ∙ ap (λ u. 
 there : (p : ℕ) → pos p -ℤ pos p ≡ pos 0
 there p = omega (arith, ints)
 
-turned_one_number : (p : ℕ) → IsNumber (λ j. one (j -ℤ pos p))
-turned_one_number p j = turned_number one one_number (pos p) j
+pub one_turned : (p : ℕ) → IsNumber (λ j. one (j -ℤ pos p))
+one_turned p j = turned_number one one_number (pos p) j
 
 pub phase_is_turn : PhaseIsTurn
 phase_is_turn k p q h =
     let T : Number = λ j. one (j -ℤ pos p) in
     let Q : Number = λ j. one (j -ℤ pos q) in
     let r = same_path k (pos 0) T Q h in
-    let e = same_size (above k (pos 0)) (above (pos 0) k) T Q (turned_one_number p) (turned_one_number q) (turned_own (pos p)) (turned_own (pos q)) r in
-    let t : T ≡ Q = root2_cancel (above k (pos 0)) T Q (turned_one_number p) (turned_one_number q) (r ∙ ap (λ n. root2 n Q) (sym e)) in
+    let e = same_size (above k (pos 0)) (above (pos 0) k) T Q (one_turned p) (one_turned q) (turned_own (pos p)) (turned_own (pos q)) r in
+    let t : T ≡ Q = root2_cancel (above k (pos 0)) T Q (one_turned p) (one_turned q) (r ∙ ap (λ n. root2 n Q) (sym e)) in
     let m : one (pos p -ℤ pos q) ≡ pos 1 = sym (ap (λ (c : Number). c (pos p)) t) ∙ ap one (there p) ∙ one_first in
     (omega (arith, ints, above_is k (pos 0)), phases_meet p q m)
 

@@ -22,7 +22,7 @@ use Rattle.ps_prim.specs.Overlaps.{IsTurn, OverlapTurn, OverlapNoTurn}
 use Rattle.ps_prim.specs.Closed.{ZeroIsNoTurn, PlainIsTurn, TurnIsPlain}
 use Rattle.ps_prim.proofs.Columns.{amplitude_number}
 use Rattle.ps_prim.proofs.Equal.{own, times_one, own_first, columns_equal}
-use Rattle.ps_prim.proofs.Different.{equal_inner, same_scaled_even, phase_is_turn}
+use Rattle.ps_prim.proofs.Different.{equal_inner, same_scaled_even, one_turned, phase_is_turn}
 use Rattle.ps_prim.proofs.Deciding.{columns_same_or_differ}
 use Rattle.ps_prim.proofs.Overlaps.{overlap_denotes, over_number, same_zero}
 use Rattle.ps_prim.proofs.ClosedSums.{alone, nothing, nothing_number, root2_nothing}
@@ -51,9 +51,6 @@ turned_first n p v w h k j = total_ext n _ _ (λ z l.
     ∙ inner_turned (v z) (w z) (h z) (k z) (pos p) (pos 0) j ∙ ap (inner (v z) (w z)) (+ℤ_idr (j +ℤ pos p)))
 
 -- ---- overlaps
-one_turned : (p : ℕ) → IsNumber (λ j. one (j -ℤ pos p))
-one_turned p j = turned_number one one_number (pos p) j
-
 -- the inner product of both columns is the phase, as far as it is scaled
 inner_is_turn : (n : ℕ) (S1 S2 S : PathValues) (A B : List Prim) → OverlapSum n S1 S2 S → Denotes n S1 A → Denotes n S2 B → (x : Truths) → length x ≡ n → (p : ℕ) → IsTurn S x p
     → (j : ℤ) → inner_over n (amplitude A x) (amplitude B x) j ≡ pos (2 ^ (turns A + turns B)) *ℤ one (j -ℤ pos p)

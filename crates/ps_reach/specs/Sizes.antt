@@ -31,7 +31,9 @@ record_size r = body_size r.body + length r.moves
 
 abbrev pub verdict_size : Verdict → ℕ
 verdict_size verdict.Yes = 0
+verdict_size (verdict.YesPhase phase) = 0
 verdict_size (verdict.No bits) = 0
+verdict_size (verdict.NoPair first second) = 0
 verdict_size (verdict.Stuck S) = sum_size S
 verdict_size (verdict.Passed e) = evidence_size e
 

@@ -44,7 +44,9 @@ impl Judged {
     {
         let verdict = match &self.verdict {
             Verdict::Yes => 0,
+            Verdict::YesPhase(_) => 0,
             Verdict::No(_) => 0,
+            Verdict::NoPair(..) => 0,
             Verdict::Stuck(sum) => sum.size(),
             Verdict::Passed(evidence) => evidence.size(),
         };
