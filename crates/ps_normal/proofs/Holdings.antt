@@ -18,7 +18,8 @@ use Rattle.ps_reach.specs.Reductions.{Reduces, rest, step}
 use Rattle.ps_reach.specs.Replays.{Replays, done, leaf, ident, join, rewrite, whole_run, Reaches}
 use Rattle.ps_reach.specs.Replays.{Entry as Placed}
 use Rattle.ps_reach.specs.Parts.{IsRight, outcome_by}
-use Rattle.ps_reach.specs.Findings.{yes, IsUnit, Shows, unit, Overlaps, shows, Compares, sums}
+use Rattle.ps_reach.specs.Findings.{yes, IsUnit, unit, Shows, no_paths, Overlaps, shows, Compares, sums}
+use Rattle.ps_reach.specs.declared.mode.Mode.{Mode}
 use Rattle.ps_reach.specs.Judging.{outcome_of, finding_of, IsJudged}
 use Rattle.ps_normal.specs.Deriving.{side_lines, step_lines, lines_by, derivation_of, Derives}
 
@@ -66,22 +67,22 @@ record Ends (n : ℕ) (A B : List Prim) (ls : List Line) : Type 0 where
   holds : Holds n A B ls last
   unit : IsUnit last
 
-shown_ends : {n : ℕ} {A B : List Prim} {ms1 ms2 : List Move} {S1 S2 S T : PathSum} {ss : List Step} → Reaches n A ms1 S1 → Reaches n B ms2 S2 → IsOverlapOf S1 S2 S → Reduces S ss T → Shows T yes → Ends n A B (lines_by ms1 ms2 ss)
-shown_ends {T = T} p q o r (unit u) = record { last = T; holds = lines_hold p q o r; unit = u }
+shown_ends : {n : ℕ} {A B : List Prim} {ms1 ms2 : List Move} {mode : Mode} {S1 S2 S T : PathSum} {ss : List Step} → Reaches n A ms1 S1 → Reaches n B ms2 S2 → IsOverlapOf S1 S2 S → Reduces S ss T → Shows mode T yes → Ends n A B (lines_by ms1 ms2 ss)
+shown_ends {T = T} p q o r (no_paths e (unit u)) = record { last = T; holds = lines_hold p q o r; unit = u }
 
-overlaps_end : {n : ℕ} {A B : List Prim} {ms1 ms2 : List Move} {S1 S2 : PathSum} {ss : List Step} → Reaches n A ms1 S1 → Reaches n B ms2 S2 → Overlaps S1 S2 ss yes → Ends n A B (lines_by ms1 ms2 ss)
+overlaps_end : {n : ℕ} {A B : List Prim} {ms1 ms2 : List Move} {mode : Mode} {S1 S2 : PathSum} {ss : List Step} → Reaches n A ms1 S1 → Reaches n B ms2 S2 → Overlaps mode S1 S2 ss yes → Ends n A B (lines_by ms1 ms2 ss)
 overlaps_end p q (shows o r s) = shown_ends p q o r.taken s
 
-compares_end : (n : ℕ) (A B : List Prim) (ms1 ms2 : List Move) (b1 b2 : Body) (ss : List Step) → IsRight n A ms1 b1 → IsRight n B ms2 b2 → Compares (outcome_by ms1 b1) (outcome_by ms2 b2) ss yes → Ends n A B (lines_by ms1 ms2 ss)
-compares_end n A B ms1 ms2 (body.Sum s) (body.Sum t) ss p q (sums o) = overlaps_end p.1 q.1 o
-compares_end n A B ms1 ms2 (body.Sum s) (body.Passed e) ss p q c = elim c [ ]
-compares_end n A B ms1 ms2 (body.Passed e) b2 ss p q c = elim c [ ]
+compares_end : (mode : Mode) (n : ℕ) (A B : List Prim) (ms1 ms2 : List Move) (b1 b2 : Body) (ss : List Step) → IsRight n A ms1 b1 → IsRight n B ms2 b2 → Compares mode (outcome_by ms1 b1) (outcome_by ms2 b2) ss yes → Ends n A B (lines_by ms1 ms2 ss)
+compares_end mode n A B ms1 ms2 (body.Sum s) (body.Sum t) ss p q (sums o) = overlaps_end p.1 q.1 o
+compares_end mode n A B ms1 ms2 (body.Sum s) (body.Passed e) ss p q c = elim c [ ]
+compares_end mode n A B ms1 ms2 (body.Passed e) b2 ss p q c = elim c [ ]
 
 judged_ends : (j : Judged) → j.verdict ≡ verdict.Yes → IsRight j.first.value.n (run_of j.first.value.items.value) j.first.value.moves j.first.value.body
-    → IsRight j.first.value.n (run_of j.second.value.items.value) j.second.value.moves j.second.value.body → IsJudged j.first.value j.second.value j.steps j.verdict → Derives j (derivation_of j)
+    → IsRight j.first.value.n (run_of j.second.value.items.value) j.second.value.moves j.second.value.body → IsJudged j.first.value j.second.value j.mode j.steps j.verdict → Derives j (derivation_of j)
 judged_ends j e p q w =
-    let c = subst (λ v. Compares (outcome_of j.first.value) (outcome_of j.second.value) j.steps (finding_of v)) e w.found in
-    let d = compares_end j.first.value.n (run_of j.first.value.items.value) (run_of j.second.value.items.value) j.first.value.moves j.second.value.moves j.first.value.body j.second.value.body j.steps p q c in
+    let c = subst (λ v. Compares j.mode (outcome_of j.first.value) (outcome_of j.second.value) j.steps (finding_of v)) e w.found in
+    let d = compares_end j.mode j.first.value.n (run_of j.first.value.items.value) (run_of j.second.value.items.value) j.first.value.moves j.second.value.moves j.first.value.body j.second.value.body j.steps p q c in
     record { last = d.last; holds = d.holds; unit = d.unit }
 
 pub judged_derives : (j : Judged) → j.verdict ≡ verdict.Yes → ∥ Derives j (derivation_of j) ∥₁

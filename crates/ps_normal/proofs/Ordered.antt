@@ -22,6 +22,7 @@ use Rattle.ps_reach.specs.Reductions.{Reduces, rest, step}
 use Rattle.ps_reach.specs.Replays.{Entry, Replays, done, leaf, ident, join, rewrite}
 use Rattle.ps_reach.specs.Parts.{IsRight, outcome_by}
 use Rattle.ps_reach.specs.Findings.{yes, Overlaps, shows, Compares, sums}
+use Rattle.ps_reach.specs.declared.mode.Mode.{Mode}
 use Rattle.ps_reach.specs.Judging.{outcome_of, finding_of}
 use Rattle.ps_normal.specs.Deriving.{side_lines, step_lines, lines_by, derivation_of}
 use Rattle.ps_normal.proofs.Finding.{items_few}
@@ -83,22 +84,22 @@ unfolding is_inner
 lines_ordered ms1 ms2 ss p q r =
     closes_derivation _ (closes_lines (side_lines false ms1) _ p (closes_lines (side_lines true ms2) _ q (closes_line Overlap _ refl (closes_lines (step_lines ss) _ r just_end))))
 
-overlaps_ordered : {n : ℕ} {A B : List Prim} {es fs gs hs : List Entry} {ms1 ms2 : List Move} {S1 S2 : PathSum} {ss : List Step} → length A ≤ 268435456 → length B ≤ 268435456 → Replays n A es ms1 fs → Replays n B gs ms2 hs
-    → Overlaps S1 S2 ss yes → is_derivation (lines_by ms1 ms2 ss) ≡ true
+overlaps_ordered : {mode : Mode} {n : ℕ} {A B : List Prim} {es fs gs hs : List Entry} {ms1 ms2 : List Move} {S1 S2 : PathSum} {ss : List Step} → length A ≤ 268435456 → length B ≤ 268435456 → Replays n A es ms1 fs → Replays n B gs ms2 hs
+    → Overlaps mode S1 S2 ss yes → is_derivation (lines_by ms1 ms2 ss) ≡ true
 overlaps_ordered {ms1 = ms1} {ms2 = ms2} a b p q (shows {ss = ss} o r s) = lines_ordered ms1 ms2 ss (replays_inner false a p) (replays_inner true b q) (reduces_inner r.taken)
 
-compares_ordered : (n : ℕ) (A B : List Prim) (ms1 ms2 : List Move) (b1 b2 : Body) (ss : List Step) → length A ≤ 268435456 → length B ≤ 268435456 → IsRight n A ms1 b1 → IsRight n B ms2 b2
-    → Compares (outcome_by ms1 b1) (outcome_by ms2 b2) ss yes → is_derivation (lines_by ms1 ms2 ss) ≡ true
-compares_ordered n A B ms1 ms2 (body.Sum s) (body.Sum t) ss a b p q (sums o) = overlaps_ordered a b p.1 q.1 o
-compares_ordered n A B ms1 ms2 (body.Sum s) (body.Passed e) ss a b p q c = elim c [ ]
-compares_ordered n A B ms1 ms2 (body.Passed e) b2 ss a b p q c = elim c [ ]
+compares_ordered : (mode : Mode) (n : ℕ) (A B : List Prim) (ms1 ms2 : List Move) (b1 b2 : Body) (ss : List Step) → length A ≤ 268435456 → length B ≤ 268435456 → IsRight n A ms1 b1 → IsRight n B ms2 b2
+    → Compares mode (outcome_by ms1 b1) (outcome_by ms2 b2) ss yes → is_derivation (lines_by ms1 ms2 ss) ≡ true
+compares_ordered mode n A B ms1 ms2 (body.Sum s) (body.Sum t) ss a b p q (sums o) = overlaps_ordered a b p.1 q.1 o
+compares_ordered mode n A B ms1 ms2 (body.Sum s) (body.Passed e) ss a b p q c = elim c [ ]
+compares_ordered mode n A B ms1 ms2 (body.Passed e) b2 ss a b p q c = elim c [ ]
 
 run_few : (L : List (List Prim)) → AllItems L → length L ≤ 65536 → length (run_of L) ≤ 268435456
 run_few L h k = omega (arith, items_few L h, k)
 
 pub judged_ordered : (j : Judged) → j.verdict ≡ verdict.Yes → AllItems j.first.value.items.value → AllItems j.second.value.items.value → is_derivation (derivation_of j) ≡ true
 judged_ordered j e h k = ∥∥₁_elim j.first.value.right (hlevel props) (λ p. ∥∥₁_elim j.second.value.right (hlevel props) (λ q. ∥∥₁_elim j.right (hlevel props) (λ w.
-    compares_ordered j.first.value.n (run_of j.first.value.items.value) (run_of j.second.value.items.value) j.first.value.moves j.second.value.moves j.first.value.body j.second.value.body j.steps
+    compares_ordered j.mode j.first.value.n (run_of j.first.value.items.value) (run_of j.second.value.items.value) j.first.value.moves j.second.value.moves j.first.value.body j.second.value.body j.steps
     (run_few j.first.value.items.value h j.first.value.few) (run_few j.second.value.items.value k j.second.value.few) p
     (subst (λ n. IsRight n (run_of j.second.value.items.value) j.second.value.moves j.second.value.body) (sym j.same) q)
-    (subst (λ v. Compares (outcome_of j.first.value) (outcome_of j.second.value) j.steps (finding_of v)) e w.found))))
+    (subst (λ v. Compares j.mode (outcome_of j.first.value) (outcome_of j.second.value) j.steps (finding_of v)) e w.found))))

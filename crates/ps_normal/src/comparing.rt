@@ -1,4 +1,4 @@
-//! Whether two segments are one linear map.
+//! Whether two segments are one linear map, or are so up to a phase.
 
 ghost use Rattle.std.specs.Prelude.{◌≡◌, ◌≤◌, ◌<◌, ◌↔◌, List, [], length, IsTrue, IfOk, IfSome, OnOk};
 ghost use Rattle.ps_prim.specs.declared.prims.Primitive.{Primitive as Prim};
@@ -6,7 +6,8 @@ ghost use Rattle.ps_reach.specs.Runs.{run_of};
 ghost use Rattle.ps_reach.specs.Parts.{held, overrun_of};
 ghost use Rattle.ps_reach.specs.Judging.{outcome_of, finding_of};
 ghost use Rattle.ps_reach.specs.Reductions.{ReducesTo, normal};
-ghost use Rattle.ps_reach.specs.Findings.{IsUnit, Shows, Overlaps, Compares, limit as limit_of};
+ghost use Rattle.ps_reach.specs.Findings.{IsUnit, ShowsPlain, Shows, Overlaps, Compares, limit as limit_of};
+ghost use Rattle.ps_reach.specs.declared.mode.Mode.TheVariants.{Exact, Phase};
 ghost use Rattle.ps_overlap.specs.Overlapping.{IsOverlapOf};
 ghost use Rattle.ps_normal.specs.Ends.{IsEnded};
 ghost use Rattle.ps_reach.specs.Fillings.{Fills, passed};
@@ -24,8 +25,8 @@ use super::parts::{Ended, Places};
 use super::reduce::reduce;
 use ps_io::NeverStop;
 use ps_mono::Bits;
-use ps_overlap::{first_point, least_point, overlap, vanishing};
-use ps_reach::{Body, Evidence, Items, Judged, Record, Steps, Verdict};
+use ps_overlap::{constant_phase, first_point, least_point, overlap, turning_point, vanishing};
+use ps_reach::{Body, Evidence, Items, Judged, Mode, Record, Steps, Verdict};
 use ps_rules::Step;
 use ps_sum::{JoinFault, PathSum};
 use std::alloc::{AllocError, Global};
@@ -53,11 +54,10 @@ fn is_unit(sum: &PathSum) -> bool
     sum.k == 0 && sum.phase.count() == 0
 }
 
-// What a closed sum without path variables shows.
-fn plainly_shown(sum: &PathSum) -> Verdict
-    requires closed { sum.now.outs ≡ [] }
-    requires plain { sum.now.m ≡ 0 }
-    ensures { Shows sum.now (finding_of result) }
+// What a sum without path variables shows of two maps.
+fn exactly_shown(sum: &PathSum) -> Verdict
+    requires { sum.now.m ≡ 0 }
+    ensures { ShowsPlain sum.now Exact (finding_of result) }
 {
     if is_unit(sum) {
         return Verdict::Yes;
@@ -67,13 +67,42 @@ fn plainly_shown(sum: &PathSum) -> Verdict
     Verdict::No(at)
 }
 
+// What a sum without path variables shows of two maps up to a phase: first by its scale, then by
+// whether its phase is the same at all inputs.
+fn phase_shown(sum: &PathSum) -> Verdict
+    ensures { ShowsPlain sum.now Phase (finding_of result) }
+{
+    if sum.k != 0 {
+        return Verdict::No(Bits::zero());
+    }
+    match constant_phase(sum) {
+        Some(phase) => Verdict::YesPhase(phase),
+        None => {
+            let mut at = Bits::zero();
+            turning_point(sum, &mut at);
+            Verdict::NoPair(Bits::zero(), at)
+        }
+    }
+}
+
+// What a sum without path variables shows.
+fn plainly_shown(sum: &PathSum, mode: Mode) -> Verdict
+    requires { sum.now.m ≡ 0 }
+    ensures { ShowsPlain sum.now mode (finding_of result) }
+{
+    match mode {
+        Mode::Exact => exactly_shown(sum),
+        Mode::Phase => phase_shown(sum),
+    }
+}
+
 // What an irreducible closed sum shows.
-fn shown(sum: PathSum) -> Verdict
+fn shown(sum: PathSum, mode: Mode) -> Verdict
     requires { sum.outs ≡ [] }
-    ensures { Shows sum (finding_of result) }
+    ensures { Shows mode sum (finding_of result) }
 {
     if sum.m == 0 {
-        return plainly_shown(&sum);
+        return plainly_shown(&sum, mode);
     }
     match vanishing(&sum) {
         Some(y) => {
@@ -86,17 +115,17 @@ fn shown(sum: PathSum) -> Verdict
 }
 
 // What the overlap of two sums comes to.
-fn reduced(alloc: Global, sum: PathSum) -> Result<Found, AllocError>
+fn reduced(alloc: Global, sum: PathSum, mode: Mode) -> Result<Found, AllocError>
     requires closed { sum.outs ≡ [] }
     requires floor { HasFloor sum }
-    ensures { IfOk result (λ f. IsFound sum f) }
+    ensures { IfOk result (λ f. IsFound mode sum f) }
 {
     let mut steps = Vec::new(alloc);
     let mut never = NeverStop;
     match reduce(alloc, sum, &mut steps, &mut never)? {
         Ended::Normal(sum) => Ok(Found {
             steps,
-            verdict: shown(sum),
+            verdict: shown(sum, mode),
         }),
         Ended::Over { passed, sum } => {
             let evidence = evidence(alloc, passed, NOWHERE, sum, None)?;
@@ -114,12 +143,13 @@ fn overlapped(
     alloc: Global,
     first: &Arc<PathSum>,
     second: &Arc<PathSum>,
+    mode: Mode,
 ) -> Result<Found, AllocError>
     requires { Comparable first.now.value second.now.value }
-    ensures { IfOk result (λ f. Overlaps first.now.value second.now.value f.steps.items (finding_of f.verdict)) }
+    ensures { IfOk result (λ f. Overlaps mode first.now.value second.now.value f.steps.items (finding_of f.verdict)) }
 {
     match overlap(alloc, first, second) {
-        Ok(sum) => reduced(alloc, sum),
+        Ok(sum) => reduced(alloc, sum, mode),
         Err(JoinFault::Passed(passed)) => {
             let second = Arc::try_clone(second)?;
             let first = Arc::try_clone(first)?;
@@ -163,9 +193,14 @@ fn limit(alloc: Global, evidence: &Evidence) -> Result<Found, AllocError>
 }
 
 // What comparing two records finds.
-fn find_difference(alloc: Global, first: &Record, second: &Record) -> Result<Found, AllocError>
+fn find_difference(
+    alloc: Global,
+    first: &Record,
+    second: &Record,
+    mode: Mode,
+) -> Result<Found, AllocError>
     requires { first.now.n ≡ second.now.n }
-    ensures { IfOk result (λ f. Compares (outcome_of first.now) (outcome_of second.now) f.steps.items (finding_of f.verdict)) }
+    ensures { IfOk result (λ f. Compares mode (outcome_of first.now) (outcome_of second.now) f.steps.items (finding_of f.verdict)) }
 {
     let _first = first.items.as_slice();
     let _second = second.items.as_slice();
@@ -173,7 +208,7 @@ fn find_difference(alloc: Global, first: &Record, second: &Record) -> Result<Fou
         Body::Passed(evidence) => limit(alloc, evidence),
         Body::Sum(before) => match &second.body {
             Body::Passed(evidence) => limit(alloc, evidence),
-            Body::Sum(behind) => overlapped(alloc, before, behind),
+            Body::Sum(behind) => overlapped(alloc, before, behind, mode),
         },
     }
 }
@@ -184,22 +219,30 @@ fn find_difference(alloc: Global, first: &Record, second: &Record) -> Result<Fou
 /// of the two sums is reduced. Where no path variable is left, they are one map exactly where the
 /// overlap has come to 1, and else differ at the first point. Where one is left, they differ at the
 /// least point of the least variable that vanishes; where none does, the verdict is the sum that is
-/// left. A limit that is passed on the way is told. `AllocError` is want of memory.
+/// left. A limit that is passed on the way is told.
+///
+/// Up to a phase all this is so but where no path variable is left. Then the verdict is the first of
+/// these: no, at the input without a bit, where the scale of the overlap is not 0; the phase, where it
+/// is the same at all inputs; and else the input without a bit together with the turning point.
+/// `AllocError` is want of memory.
 pub fn compare(
     alloc: Global,
     first: &Arc<Record>,
     second: &Arc<Record>,
+    mode: Mode,
 ) -> Result<Judged, AllocError>
     requires same { first.now.value.n ≡ second.now.value.n }
     ensures records { IfOk result (λ j. (j.first.value ≡ first.now.value) × (j.second.value ≡ second.now.value)) }
-    ensures found { IfOk result (λ j. Compares (outcome_of first.now.value) (outcome_of second.now.value) j.steps (finding_of j.verdict)) }
+    ensures mode { IfOk result (λ j. j.mode ≡ mode) }
+    ensures found { IfOk result (λ j. Compares mode (outcome_of first.now.value) (outcome_of second.now.value) j.steps (finding_of j.verdict)) }
 {
-    let found = find_difference(alloc, first, second)?;
+    let found = find_difference(alloc, first, second, mode)?;
     let first = Arc::try_clone(first)?;
     let second = Arc::try_clone(second)?;
     Ok(Judged {
         first,
         second,
+        mode,
         steps: Steps::from_vec(found.steps),
         verdict: found.verdict,
     })
@@ -231,22 +274,23 @@ fn judged_with(
     n: u32,
     before: Record,
     second: &Arc<Items>,
+    mode: Mode,
     work: &mut Workspace,
 ) -> Result<Judged, AllocError>
     requires width { (1 ≤ n) × (n ≤ 64) }
     requires qubits { before.n ≡ n }
     requires second { CanRun n second.now.value }
     requires table { IsTable n work.old.leaves.items }
-    ensures { IfOk result (λ j. (items : List (List Prim)) → CanRun n items → IsRecordOf n items (Fills n (run_of items)) before → IsBoth n items second.now.value j) }
+    ensures { IfOk result (λ j. (items : List (List Prim)) → CanRun n items → IsRecordOf n items (Fills n (run_of items)) before → IsBoth n items second.now.value mode j) }
 {
     let before = Arc::new(alloc, before)?;
     let behind = Arc::new(alloc, filled(alloc, n, second, work)?)?;
-    let judged = compare(alloc, &before, &behind)?;
+    let judged = compare(alloc, &before, &behind, mode)?;
     Ok(judged)
 }
 
-/// Whether two segments on `n` qubits are one linear map: each is filled as one run of items, and the
-/// two records are compared. `AllocError` is want of memory.
+/// Whether two segments on `n` qubits are one linear map, or are so up to a phase: each is filled as one
+/// run of items, and the two records are compared. `AllocError` is want of memory.
 ///
 /// Condition: 1 to 64 qubits, at most 65,536 items each, all on these qubits.
 pub fn same_gates(
@@ -254,17 +298,19 @@ pub fn same_gates(
     first: &Arc<Items>,
     second: &Arc<Items>,
     n: u32,
+    mode: Mode,
 ) -> Result<Judged, AllocError>
     requires width { (1 ≤ n) × (n ≤ 64) }
     requires first { CanRun n first.now.value }
     requires second { CanRun n second.now.value }
-    ensures decided { IfOk result (λ j. Decides n (run_of first.now.value) (run_of second.now.value) j.steps (finding_of j.verdict)) }
+    ensures decided { IfOk result (λ j. Decides n (run_of first.now.value) (run_of second.now.value) mode j.steps (finding_of j.verdict)) }
+    ensures mode { IfOk result (λ j. j.mode ≡ mode) }
     ensures first_record { IfOk result (λ j. IsRecordOf n first.now.value (Fills n (run_of first.now.value)) j.first.value) }
     ensures second_record { IfOk result (λ j. IsRecordOf n second.now.value (Fills n (run_of second.now.value)) j.second.value) }
 {
     let mut work = Workspace::new(alloc);
     let before = filled(alloc, n, first, &mut work)?;
-    judged_with(alloc, n, before, second, &mut work)
+    judged_with(alloc, n, before, second, mode, &mut work)
 }
 
 // The limit that the record's segment passes, if it does.
@@ -286,17 +332,18 @@ pub fn decide(
     first: &Arc<Items>,
     second: &Arc<Items>,
     n: u32,
+    mode: Mode,
 ) -> Result<Decision, AllocError>
     requires width { (1 ≤ n) × (n ≤ 64) }
     requires first { CanRun n first.now.value }
     requires second { CanRun n second.now.value }
-    ensures { IfOk result (IsDecision n first.now.value second.now.value) }
+    ensures { IfOk result (IsDecision n first.now.value second.now.value mode) }
 {
     let mut work = Workspace::new(alloc);
     let before = filled(alloc, n, first, &mut work)?;
     if let Some(evidence) = passed_limit(&before)? {
         return Ok(Decision::Passed(evidence));
     }
-    let judged = judged_with(alloc, n, before, second, &mut work)?;
+    let judged = judged_with(alloc, n, before, second, mode, &mut work)?;
     Ok(Decision::Judged(judged))
 }

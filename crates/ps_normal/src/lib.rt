@@ -1,4 +1,4 @@
-//! Normal sums of segments, and whether two segments are one linear map.
+//! Normal sums of segments, and whether two segments are one linear map, or are so up to a phase.
 #![tactic(auto)]
 
 mod children;

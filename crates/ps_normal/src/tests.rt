@@ -6,7 +6,7 @@ ghost use Rattle.ps_normal.specs.Fillings.{CanRun, HasSum};
 use super::*;
 use ps_io::{NeverStop, Stop};
 use ps_prim::{Item, Prim};
-use ps_reach::{Body, Items, Judged, Record, Task, Verdict, Work};
+use ps_reach::{Body, Items, Judged, Mode, Record, Task, Verdict, Work};
 use ps_ring::Angle;
 use std::alloc::{AllocError, Global};
 use std::sync::Arc;
@@ -81,6 +81,12 @@ fn one_hadamard(alloc: Global) -> Result<Arc<Items>, AllocError>
     one_item(alloc, vec![in alloc; hadamard()]?)
 }
 
+fn one_eighth(alloc: Global) -> Result<Arc<Items>, AllocError>
+    ensures { IfOk result (λ s. CanRun 1 s.value) }
+{
+    one_item(alloc, vec![in alloc; eighth()]?)
+}
+
 fn with_an_eighth(alloc: Global) -> Result<Arc<Items>, AllocError>
     ensures { IfOk result (λ s. CanRun 1 s.value) }
 {
@@ -145,7 +151,9 @@ fn a_stop_is_heard(rt: HostRuntime) -> Result<(), Fail> {
 fn word(verdict: &Verdict) -> &'static str {
     match verdict {
         Verdict::Yes => "yes",
+        Verdict::YesPhase(_) => "yes phase",
         Verdict::No(_) => "no",
+        Verdict::NoPair(..) => "no pair",
         Verdict::Stuck(_) => "stuck",
         Verdict::Passed(_) => "passed",
     }
@@ -156,18 +164,38 @@ fn word(verdict: &Verdict) -> &'static str {
 fn segments_are_compared(rt: HostRuntime) -> Result<(), Fail> {
     let alloc = rt.alloc();
     let none = nothing(alloc)?;
-    let yes = same_gates(alloc, &hadamards(alloc)?, &none, 1)?;
+    let yes = same_gates(alloc, &hadamards(alloc)?, &none, 1, Mode::Exact)?;
     assert_eq!(rt; word(&yes.verdict), "yes");
     assert_eq!(rt; yes.size(), 1);
-    let no = same_gates(alloc, &one_hadamard(alloc)?, &none, 1)?;
+    let no = same_gates(alloc, &one_hadamard(alloc)?, &none, 1, Mode::Exact)?;
     assert_eq!(rt; word(&no.verdict), "no");
-    let stuck = same_gates(alloc, &with_an_eighth(alloc)?, &none, 1)?;
+    let stuck = same_gates(alloc, &with_an_eighth(alloc)?, &none, 1, Mode::Exact)?;
     match &stuck.verdict {
         Verdict::Stuck(sum) => {
             assert!(rt; sum.text(alloc)?.as_slice() == b"k=2 m=1 P=7/8*y0 f=-".as_slice())
         }
         _ => assert!(rt; false),
     }
+    Ok(())
+}
+
+// Nothing is itself up to no phase; an eighth of a turn at one input is told by both inputs; a Hadamard is
+// no multiple of nothing; and where a path variable is left the sum is told.
+#[test]
+fn segments_are_compared_up_to_a_phase(rt: HostRuntime) -> Result<(), Fail> {
+    let alloc = rt.alloc();
+    let none = nothing(alloc)?;
+    let yes = same_gates(alloc, &hadamards(alloc)?, &none, 1, Mode::Phase)?;
+    assert!(rt; matches!(&yes.verdict, Verdict::YesPhase(phase) if phase.units() == 0));
+    let pair = same_gates(alloc, &one_eighth(alloc)?, &none, 1, Mode::Phase)?;
+    match &pair.verdict {
+        Verdict::NoPair(first, second) => assert!(rt; !first.get(0) && second.get(0)),
+        _ => assert!(rt; false),
+    }
+    let no = same_gates(alloc, &one_hadamard(alloc)?, &none, 1, Mode::Phase)?;
+    assert_eq!(rt; word(&no.verdict), "no");
+    let stuck = same_gates(alloc, &with_an_eighth(alloc)?, &none, 1, Mode::Phase)?;
+    assert_eq!(rt; word(&stuck.verdict), "stuck");
     Ok(())
 }
 
@@ -243,7 +271,7 @@ fn twice_and_nothing(alloc: Global) -> Result<Option<Judged>, AllocError> {
     if whole.n != none.n {
         return Ok(None);
     }
-    Ok(Some(compare(alloc, &whole, &none)?))
+    Ok(Some(compare(alloc, &whole, &none, Mode::Exact)?))
 }
 
 const ONE_RUN: &[u8] =
@@ -257,7 +285,7 @@ const TWO_RUNS: &[u8] =
 fn yes_is_derived(rt: HostRuntime) -> Result<(), Fail> {
     let alloc = rt.alloc();
     let none = nothing(alloc)?;
-    let one_run = same_gates(alloc, &hadamards(alloc)?, &none, 1)?;
+    let one_run = same_gates(alloc, &hadamards(alloc)?, &none, 1, Mode::Exact)?;
     assert!(rt; derives_as(alloc, &one_run, ONE_RUN)?);
     match twice_and_nothing(alloc)? {
         Some(two_runs) => assert!(rt; derives_as(alloc, &two_runs, TWO_RUNS)?),
