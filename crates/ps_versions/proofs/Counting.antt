@@ -12,22 +12,22 @@ use Rattle.seg_tree.specs.Table.{tree}
 use Rattle.seg_tree.specs.declared.node.Seen.{Seen}
 use Rattle.seg_tree.specs.declared.node.Seen.TheVariants as seen
 use Rattle.ps_versions.specs.Records.{record_at}
-use Rattle.ps_versions.specs.Questions.{segments, lacks, lacks_by, missing_in, first_of, first_ready, behind}
+use Rattle.ps_versions.specs.Questions.{segments, lacks, lacks_by, missing_in, first_of, first_named, behind}
 use Rattle.ps_versions.specs.Walks.{has_name, found, visited, walked, is_found, start, outcome}
 use Rattle.ps_versions.specs.declared.walks.Walk.{Walk}
 use Rattle.ps_versions.specs.declared.walks.Walk.TheVariants.{Seeking, Looking, Found}
 
 -- a node of a table has its place as its name
 pub named_shown : (ts : List (Tree ℕ)) (k : ℕ) (s : Seen) → Shows ts k s → name_of (tree ts k) ≡ Some k
-named_shown ts k (seen.Leaf items) h = ap name_of h
+named_shown ts k (seen.Leaf items) h = ap name_of h.0
 named_shown ts k (seen.Branch left right) h = ap name_of h.0
 
 module _ {A : Type 0} (p : A → Bool) where
-  abbrev counted : List A → ℕ
+  abbrev pub counted : List A → ℕ
   counted [] = 0
   counted (x ∷ xs) = cond (p x) (1 + counted xs) (counted xs)
 
-  counted_is : (xs : List A) → counted xs ≡ count_by p xs
+  pub counted_is : (xs : List A) → counted xs ≡ count_by p xs
   counted_is xs = is_count_by counted p refl (λ x xs. refl) xs
 
   counted-append : (xs ys : List A) → counted (xs ++ ys) ≡ counted xs + counted ys
@@ -137,18 +137,18 @@ module _ (ready : Tree ℕ → Bool) where
   looked true None ts rest e = e
   looked false name ts rest e = e
 
-  pub looking : (ts : List (Tree ℕ)) → outcome (walked ready Looking ts) ≡ first_ready ready ts
+  pub looking : (ts : List (Tree ℕ)) → outcome (walked ready Looking ts) ≡ first_named ready ts
   looking [] = refl
-  looking (t ∷ ts) = looked (ready t) (name_of t) ts (first_ready ready ts) (looking ts)
+  looking (t ∷ ts) = looked (ready t) (name_of t) ts (first_named ready ts) (looking ts)
 
-  sought : (b : Bool) (k : ℕ) (ts : List (Tree ℕ)) → outcome (walked ready (Seeking k) ts) ≡ first_ready ready (behind (Some k) ts) → outcome (walked ready (cond b Looking (Seeking k)) ts) ≡ first_ready ready (cond b ts (behind (Some k) ts))
+  sought : (b : Bool) (k : ℕ) (ts : List (Tree ℕ)) → outcome (walked ready (Seeking k) ts) ≡ first_named ready (behind (Some k) ts) → outcome (walked ready (cond b Looking (Seeking k)) ts) ≡ first_named ready (cond b ts (behind (Some k) ts))
   sought true k ts e = looking ts
   sought false k ts e = e
 
-  pub seeking : (k : ℕ) (ts : List (Tree ℕ)) → outcome (walked ready (Seeking k) ts) ≡ first_ready ready (behind (Some k) ts)
+  pub seeking : (k : ℕ) (ts : List (Tree ℕ)) → outcome (walked ready (Seeking k) ts) ≡ first_named ready (behind (Some k) ts)
   seeking k [] = refl
   seeking k (t ∷ ts) = sought (has_name k (name_of t)) k ts (seeking k ts)
 
-  pub gone : (after : Option ℕ) (ts : List (Tree ℕ)) → outcome (walked ready (start after) ts) ≡ first_ready ready (behind after ts)
+  pub gone : (after : Option ℕ) (ts : List (Tree ℕ)) → outcome (walked ready (start after) ts) ≡ first_named ready (behind after ts)
   gone None ts = looking ts
   gone (Some k) ts = seeking k ts

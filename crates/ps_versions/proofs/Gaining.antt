@@ -1,5 +1,5 @@
 -- A circuit that gains versions.
-use Rattle.std.proofs.Common.{◌≡◌, ℕ, zero, suc, ◌+◌, ◌-◌, ◌*◌, ◌<◌, ◌≤◌, max, List, [], ◌∷◌, ◌++◌, take, drop, length, replicate, set, refl, sym, ap, ◌∙◌, subst, arith, length-append, append-nil}
+use Rattle.std.proofs.Common.{◌≡◌, ℕ, zero, suc, ◌+◌, ◌-◌, ◌*◌, ◌<◌, ◌≤◌, max, Bool, List, [], ◌∷◌, ◌++◌, take, drop, length, replicate, set, refl, sym, ap, ◌∙◌, subst, arith, length-append, append-nil}
 use Rattle.std.specs.Prelude.{Option, Some, None, slice_get}
 use Rattle.std.proofs.lemmas.List.{length-set}
 use Rattle.seg_tree.specs.Trees.{Tree, build, splice, run_maybe}
@@ -14,10 +14,10 @@ use Rattle.ps_versions.specs.Questions.{missing_in}
 use Rattle.ps_versions.specs.Opened.{fresh_version}
 use Rattle.ps_versions.specs.Spliced.{latest_of, latest_root, latest_tree, with_more, SplicesAt}
 use Rattle.ps_versions.specs.Gains.{Gains, HasCount}
-use Rattle.ps_versions.specs.Views.{version_of, versions_of, circuit_of, circuits_of, kept_of, seen, IsSound}
+use Rattle.ps_versions.specs.Views.{version_of, versions_of, circuit_of, circuits_of, kept_of, seen, EndsLive, IsSound}
 use Rattle.ps_versions.proofs.Lookups.{circuits-set, each_set, get-circuits, length-versions, get-versions, length-kept}
-use Rattle.ps_versions.proofs.Growths.{once_kept, kept_grown}
-use Rattle.ps_versions.proofs.Weights.{few_missing}
+use Rattle.ps_versions.proofs.Growths.{once_kept, kept_grown, filled_more, counted_more}
+use Rattle.ps_versions.proofs.Totals.{few_missing}
 use Rattle.ps_versions.specs.declared.data.Edition.{Edition}
 use Rattle.ps_versions.specs.declared.data.Course.{Course}
 use Rattle.ps_versions.specs.declared.versions.Versions.TheInside.{Inside}
@@ -83,9 +83,22 @@ each_append P [] ys all more k x e = more k x e
 each_append P (y ∷ xs) ys all more zero x e = all zero x e
 each_append P (y ∷ xs) ys all more (suc k) x e = each_append P xs ys (λ j z g. all (suc j) z g) more k x e
 
-module _ {R : Type 0} (a b : Inside R) (i : ℕ) (more : List Edition) where
-  pub sound_gains : b.names.keys ≡ a.names.keys → (g : Gains a.courses.items b.courses.items i more) → Keeps a.nodes b.nodes → length b.records.items ≡ length b.nodes → length g.was.editions.items + length more < 4294967296 → ((k : ℕ) (e : Edition) → slice_get more k ≡ Some e → IsOnce b.nodes e.root) → ((k : ℕ) (e : Edition) → slice_get more k ≡ Some e → IsLife (version_of e)) → IsSound a → IsSound b
-  sound_gains names g kept recorded few once lives s = record {
+-- the last of some versions is live where one that is live comes last
+pub ends_more : (es : List Edition) (e : Edition) → e.retired ≡ None → EndsLive (es ++ e ∷ [])
+ends_more es e live = λ x h.
+    let n : length (es ++ e ∷ []) - 1 ≡ length es = omega (arith, length-append es (e ∷ [])) in
+    last es x (subst (λ k. slice_get (es ++ e ∷ []) k ≡ Some x) n h)
+  where
+    last : (es : List Edition) (x : Edition) → slice_get (es ++ e ∷ []) (length es) ≡ Some x → x.retired ≡ None
+    last [] x h = let same : e ≡ x = cc in ap (λ y. y.retired) (sym same) ∙ live
+    last (d ∷ es) x h = last es x h
+
+pub ends_same : (es : List Edition) → EndsLive es → EndsLive (es ++ [])
+ends_same es h = subst EndsLive (sym (append-nil es)) h
+
+module _ {R : Type 0} (passed : R → Bool) (a b : Inside R) (i : ℕ) (more : List Edition) where
+  pub sound_gains : (m : ℕ) → b.names.keys ≡ a.names.keys → (g : Gains a.courses.items b.courses.items i more) → Keeps a.nodes b.nodes → b.records.items ≡ a.records.items ++ replicate m None → length b.records.items ≡ length b.nodes → b.passed ≡ a.passed → length g.was.editions.items + length more < 4294967296 → EndsLive (g.was.editions.items ++ more) → ((k : ℕ) (e : Edition) → slice_get more k ≡ Some e → IsOnce b.nodes e.root) → ((k : ℕ) (e : Edition) → slice_get more k ≡ Some e → IsLife (version_of e)) → IsSound passed a → IsSound passed b
+  sound_gains m names g kept records recorded p few ends once lives s = record {
     named = omega (arith, ap length names, gains_length a.courses.items b.courses.items i more g, s.named);
     recorded = recorded;
     numbered = λ k x h. each_set (λ y. length y.editions.items < 4294967296) a.courses.items i g.course s.numbered (omega (arith, ap length g.editions, length-append g.was.editions.items more, few)) k x (moved k x h);
@@ -93,6 +106,11 @@ module _ {R : Type 0} (a b : Inside R) (i : ℕ) (more : List Edition) where
         (λ j y r. each_append (λ y. IsOnce b.nodes y.root) g.was.editions.items more (λ j y r. once_kept a.nodes b.nodes y.root kept (s.once i j g.was y g.there r)) once j y (subst (λ es. slice_get es j ≡ Some y) g.editions r)) k x (moved k x h) j y r;
     lives = λ k j x y h r. each_set (λ z. (j : ℕ) (y : Edition) → slice_get z.editions.items j ≡ Some y → IsLife (version_of y)) a.courses.items i g.course (λ k z h j y r. s.lives k j z y h r)
         (λ j y r. each_append (λ y. IsLife (version_of y)) g.was.editions.items more (λ j y r. s.lives i j g.was y g.there r) lives j y (subst (λ es. slice_get es j ≡ Some y) g.editions r)) k x (moved k x h) j y r;
+    few = omega (arith, gains_length a.courses.items b.courses.items i more g, s.few);
+    begun = λ k x h. each_set (λ y. 0 < length y.editions.items) a.courses.items i g.course s.begun (omega (arith, ap length g.editions, length-append g.was.editions.items more, s.begun i g.was g.there)) k x (moved k x h);
+    live = λ k x h. each_set (λ y. EndsLive y.editions.items) a.courses.items i g.course s.live (subst EndsLive (sym g.editions) ends) k x (moved k x h);
+    filled = filled_more passed a b m kept records s;
+    counted = counted_more passed a b m p records s;
   }
     where
       moved : (k : ℕ) (x : Course) → slice_get b.courses.items k ≡ Some x → slice_get (set a.courses.items i g.course) k ≡ Some x
@@ -112,8 +130,8 @@ pub keeps_same : (old new : List (Tree ℕ)) → new ≡ old → Keeps old new
 keeps_same old new e = subst (λ ts. Keeps old ts) (sym e) (keeps_all old)
 
 -- what is seen where a circuit gained room
-pub seen_same : {R : Type 0} (a b : Inside R) (i : ℕ) → b.names.keys ≡ a.names.keys → Gains a.courses.items b.courses.items i [] → b.nodes ≡ a.nodes → b.records.items ≡ a.records.items → IsSound a → seen b ≡ seen a
-seen_same a b i n g t r s =
+pub seen_same : {R : Type 0} (passed : R → Bool) (a b : Inside R) (i : ℕ) → b.names.keys ≡ a.names.keys → Gains a.courses.items b.courses.items i [] → b.nodes ≡ a.nodes → b.records.items ≡ a.records.items → IsSound passed a → seen b ≡ seen a
+seen_same passed a b i n g t r s =
     let cs : circuits_of b.names.keys b.courses.items ≡ circuits_of a.names.keys a.courses.items = ap (λ ns. circuits_of ns b.courses.items) n ∙ circuits-same a.names.keys a.courses.items b.courses.items i s.named g in
     ap (λ x. record { circuits = x; nodes = b.nodes; kept = kept_of b.records.items }) cs
     ∙ ap (λ x. record { circuits = circuits_of a.names.keys a.courses.items; nodes = x; kept = kept_of b.records.items }) t
@@ -136,10 +154,10 @@ pub once_none : (ts : List (Tree ℕ)) → IsOnce ts None
 once_none ts = record { there = tt; once = λ k. omega arith }
 
 -- the whole of a splice
-pub spliced : {R : Type 0} (a b : Inside R) (old : Held R) (i from to number : ℕ) (items : List ℕ) (e : Edition) (r : Option ℕ) → b.names.keys ≡ a.names.keys → Gains a.courses.items b.courses.items i (e ∷ []) → version_of e ≡ fresh_version e.root → b.records.items ≡ a.records.items ++ replicate (length b.nodes - length a.nodes) None → r ≡ latest_root (slice_get (seen a).circuits i) → run_maybe (root_tree b.nodes e.root) ≡ take from (run_maybe (root_tree a.nodes r)) ++ items ++ drop to (run_maybe (root_tree a.nodes r)) → PlantsMaybe a.nodes b.nodes (splice (root_tree a.nodes r) from to items) e.root → Passes (length a.nodes) (length b.nodes) (λ k. uses_maybe k (root_tree a.nodes r)) (λ k. uses_maybe k (root_tree b.nodes e.root)) → length b.nodes ≤ length a.nodes + 64 * (max (height_maybe (root_tree a.nodes r)) (height_maybe (build items)) + 1) + 2 * length items → number ≡ latest_of (slice_get (seen a).circuits i) + 1 → IsSound a → seen a ≡ old → SplicesAt old (seen b) (Some i) from to items number
-spliced {R} a b old i from to number items e r names g fresh records is run planted passes few num s told =
+pub spliced : {R : Type 0} (passed : R → Bool) (a b : Inside R) (old : Held R) (i from to number : ℕ) (items : List ℕ) (e : Edition) (r : Option ℕ) → b.names.keys ≡ a.names.keys → Gains a.courses.items b.courses.items i (e ∷ []) → version_of e ≡ fresh_version e.root → b.records.items ≡ a.records.items ++ replicate (length b.nodes - length a.nodes) None → r ≡ latest_root (slice_get (seen a).circuits i) → run_maybe (root_tree b.nodes e.root) ≡ take from (run_maybe (root_tree a.nodes r)) ++ items ++ drop to (run_maybe (root_tree a.nodes r)) → PlantsMaybe a.nodes b.nodes (splice (root_tree a.nodes r) from to items) e.root → Passes (length a.nodes) (length b.nodes) (λ k. uses_maybe k (root_tree a.nodes r)) (λ k. uses_maybe k (root_tree b.nodes e.root)) → length b.nodes ≤ length a.nodes + 64 * (max (height_maybe (root_tree a.nodes r)) (height_maybe (build items)) + 1) + 2 * length items → number ≡ latest_of (slice_get (seen a).circuits i) + 1 → IsSound passed a → seen a ≡ old → SplicesAt old (seen b) (Some i) from to items number
+spliced {R} passed a b old i from to number items e r names g fresh records is run planted passes few num s told =
     let more : ℕ = length b.nodes - length a.nodes in
-    let kept : kept_of b.records.items ≡ kept_of a.records.items ++ replicate more None = kept_grown a b more records in
+    let kept : kept_of b.records.items ≡ kept_of a.records.items ++ replicate more None = kept_grown passed a b more records in
     let long : length (kept_of a.records.items) ≡ length a.nodes = length-kept a.records.items ∙ s.recorded in
     let sum : length a.nodes + more ≡ length b.nodes = omega (arith, planted.kept.longer) in
     let lacking : missing_in (kept_of b.records.items) (root_tree b.nodes e.root) ≤ missing_in (kept_of a.records.items) (root_tree a.nodes r) + more =

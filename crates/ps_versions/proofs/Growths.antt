@@ -1,7 +1,7 @@
 -- How what is held grows by a circuit or a version.
 use Rattle.std.proofs.Common.{◌≡◌, ℕ, zero, suc, ◌-◌, ◌<◌, ◌≤◌, ◌⊎◌, inl, inr, List, [], ◌∷◌, ◌++◌, length, replicate, get_or, refl, sym, ap, ◌∙◌, subst, arith, length-append, Bool, true, false, ◌||◌, nat_eq}
 use Rattle.std.specs.Prelude.{Option, Some, None, position, slice_get}
-use Rattle.std.specs.List.{list_any, position_or_len}
+use Rattle.std.specs.List.{list_any, count_by, position_or_len}
 use Rattle.std.specs.Cmp.Lexicographic.{pointwise}
 use Rattle.std.proofs.lemmas.Grind.{common_steps}
 use Rattle.std.proofs.lemmas.List.Sums.{fails_before_first}
@@ -15,8 +15,10 @@ use Rattle.ps_versions.specs.Lookup.{circuit_at, version_in, version_at}
 use Rattle.ps_versions.specs.Lives.{IsLife}
 use Rattle.ps_versions.specs.Records.{IsOnce}
 use Rattle.ps_versions.specs.Opened.{Opens, fresh_version}
-use Rattle.ps_versions.specs.Views.{version_of, versions_of, circuit_of, circuits_of, kept_of, seen, IsSound}
-use Rattle.ps_versions.proofs.Lookups.{place_found, place-fields}
+use Rattle.ps_versions.specs.Questions.{is_passed}
+use Rattle.ps_versions.specs.Views.{version_of, versions_of, circuit_of, circuits_of, kept_of, seen, EndsLive, IsFilled, IsSound}
+use Rattle.ps_versions.proofs.Lookups.{place_found, place-fields, length-kept}
+use Rattle.ps_versions.proofs.Filling.{filled_grown, passed_grown}
 use Rattle.ps_versions.proofs.Finding.{last_circuit}
 use Rattle.ps_versions.specs.declared.data.Edition.{Edition}
 use Rattle.ps_versions.specs.declared.data.Course.{Course}
@@ -101,20 +103,37 @@ once_new old new ts r given there p most = record { there = there; once = λ k. 
       ]
     ]
 
-module _ {R : Type 0} (a b : Inside R) where
+pub ends_one : (e : Edition) → e.retired ≡ None → EndsLive (e ∷ [])
+ends_one e live = λ x h. let same : e ≡ x = cc in ap (λ y. y.retired) (sym same) ∙ live
+
+module _ {R : Type 0} (passed : R → Bool) (a b : Inside R) where
+  -- more nodes, which keep nothing
+  pub filled_more : (m : ℕ) → Keeps a.nodes b.nodes → b.records.items ≡ a.records.items ++ replicate m None → IsSound passed a → IsFilled passed b.nodes (kept_of b.records.items)
+  filled_more m kept records s =
+      filled_grown passed a.nodes b.nodes (kept_of a.records.items) (kept_of b.records.items) m kept (ap kept_of records ∙ kept-more a.records.items m) (length-kept a.records.items ∙ s.recorded) s.filled
+
+  pub counted_more : (m : ℕ) → b.passed ≡ a.passed → b.records.items ≡ a.records.items ++ replicate m None → IsSound passed a → b.passed ≡ count_by (is_passed passed) (kept_of b.records.items)
+  counted_more m p records s =
+      p ∙ s.counted ∙ sym (passed_grown passed (kept_of a.records.items) m) ∙ sym (ap (count_by (is_passed passed)) (ap kept_of records ∙ kept-more a.records.items m))
+
   -- the fields are what they were
-  pub sound_same : b.names.keys ≡ a.names.keys → b.courses.items ≡ a.courses.items → b.nodes ≡ a.nodes → b.records.items ≡ a.records.items → IsSound a → IsSound b
-  sound_same n c t r s = record {
+  pub sound_same : b.names.keys ≡ a.names.keys → b.courses.items ≡ a.courses.items → b.nodes ≡ a.nodes → b.records.items ≡ a.records.items → b.passed ≡ a.passed → IsSound passed a → IsSound passed b
+  sound_same n c t r p s = record {
     named = omega (arith, ap length n, ap length c, s.named);
     recorded = omega (arith, ap length r, ap length t, s.recorded);
     numbered = λ i x g. s.numbered i x (subst (λ cs. slice_get cs i ≡ Some x) c g);
     once = λ i j x e g h. subst (λ ts. IsOnce ts e.root) (sym t) (s.once i j x e (subst (λ cs. slice_get cs i ≡ Some x) c g) h);
     lives = λ i j x e g h. s.lives i j x e (subst (λ cs. slice_get cs i ≡ Some x) c g) h;
+    few = omega (arith, ap length c, s.few);
+    begun = λ i x g. s.begun i x (subst (λ cs. slice_get cs i ≡ Some x) c g);
+    live = λ i x g. s.live i x (subst (λ cs. slice_get cs i ≡ Some x) c g);
+    filled = subst (λ ts. IsFilled passed ts (kept_of b.records.items)) (sym t) (subst (λ rs. IsFilled passed a.nodes (kept_of rs)) (sym r) s.filled);
+    counted = p ∙ s.counted ∙ ap (λ rs. count_by (is_passed passed) (kept_of rs)) (sym r);
   }
 
   -- one circuit more
-  pub sound_more : (n : List ℕ) (d : Course) (e : Edition) → b.names.keys ≡ a.names.keys ++ n ∷ [] → b.courses.items ≡ a.courses.items ++ d ∷ [] → d.editions.items ≡ e ∷ [] → Keeps a.nodes b.nodes → length b.records.items ≡ length b.nodes → IsOnce b.nodes e.root → IsLife (version_of e) → IsSound a → IsSound b
-  sound_more n d e names courses editions kept recorded once life s = record {
+  pub sound_more : (n : List ℕ) (d : Course) (e : Edition) (m : ℕ) → b.names.keys ≡ a.names.keys ++ n ∷ [] → b.courses.items ≡ a.courses.items ++ d ∷ [] → d.editions.items ≡ e ∷ [] → Keeps a.nodes b.nodes → b.records.items ≡ a.records.items ++ replicate m None → length b.records.items ≡ length b.nodes → b.passed ≡ a.passed → length a.courses.items < 256 → IsOnce b.nodes e.root → IsLife (version_of e) → e.retired ≡ None → IsSound passed a → IsSound passed b
+  sound_more n d e m names courses editions kept records recorded p few once life live s = record {
     named = omega (arith, ap length names, ap length courses, length-append a.names.keys (n ∷ []), length-append a.courses.items (d ∷ []), s.named);
     recorded = recorded;
     numbered = λ i x g. each_more (λ y. length y.editions.items < 4294967296) a.courses.items d s.numbered (omega (arith, ap length editions)) i x (subst (λ cs. slice_get cs i ≡ Some x) courses g);
@@ -122,10 +141,15 @@ module _ {R : Type 0} (a b : Inside R) where
         (λ j y h. each_more (λ y. IsOnce b.nodes y.root) [] e (λ k y h. cc) once j y (subst (λ es. slice_get es j ≡ Some y) editions h)) i x (subst (λ cs. slice_get cs i ≡ Some x) courses g) j y h;
     lives = λ i j x y g h. each_more (λ z. (j : ℕ) (y : Edition) → slice_get z.editions.items j ≡ Some y → IsLife (version_of y)) a.courses.items d (λ k z g j y h. s.lives k j z y g h)
         (λ j y h. each_more (λ y. IsLife (version_of y)) [] e (λ k y h. cc) life j y (subst (λ es. slice_get es j ≡ Some y) editions h)) i x (subst (λ cs. slice_get cs i ≡ Some x) courses g) j y h;
+    few = omega (arith, ap length courses, length-append a.courses.items (d ∷ []), few);
+    begun = λ i x g. each_more (λ y. 0 < length y.editions.items) a.courses.items d s.begun (omega (arith, ap length editions)) i x (subst (λ cs. slice_get cs i ≡ Some x) courses g);
+    live = λ i x g. each_more (λ y. EndsLive y.editions.items) a.courses.items d s.live (subst EndsLive (sym editions) (ends_one e live)) i x (subst (λ cs. slice_get cs i ≡ Some x) courses g);
+    filled = filled_more m kept records s;
+    counted = counted_more m p records s;
   }
 
   -- what is seen of one circuit more
-  pub circuits_more : (n : List ℕ) (d : Course) (e : Edition) → b.names.keys ≡ a.names.keys ++ n ∷ [] → b.courses.items ≡ a.courses.items ++ d ∷ [] → d.editions.items ≡ e ∷ [] → IsSound a → (seen b).circuits ≡ (seen a).circuits ++ record { name = n; qubits = d.qubits; opened = d.opened; versions = version_of e ∷ [] } ∷ []
+  pub circuits_more : (n : List ℕ) (d : Course) (e : Edition) → b.names.keys ≡ a.names.keys ++ n ∷ [] → b.courses.items ≡ a.courses.items ++ d ∷ [] → d.editions.items ≡ e ∷ [] → IsSound passed a → (seen b).circuits ≡ (seen a).circuits ++ record { name = n; qubits = d.qubits; opened = d.opened; versions = version_of e ∷ [] } ∷ []
   circuits_more n d e names courses editions s =
       ap (λ ns. circuits_of ns b.courses.items) names
       ∙ ap (circuits_of (a.names.keys ++ n ∷ [])) courses
@@ -136,16 +160,16 @@ module _ {R : Type 0} (a b : Inside R) where
   kept_grown m e = ap kept_of e ∙ kept-more a.records.items m
 
 -- the whole of opening a circuit
-pub opened : {R : Type 0} (a b : Inside R) (old : Held R) (n : List ℕ) (d : Course) (e : Edition) (items : List ℕ) → b.names.keys ≡ a.names.keys ++ n ∷ [] → b.courses.items ≡ a.courses.items ++ d ∷ [] → d.editions.items ≡ e ∷ [] → version_of e ≡ fresh_version e.root → b.records.items ≡ a.records.items ++ replicate (length b.nodes - length a.nodes) None → run_maybe (root_tree b.nodes e.root) ≡ items → PlantsMaybe a.nodes b.nodes (build items) e.root → circuit_at old.circuits n ≡ None → IsSound a → seen a ≡ old → Opens old (seen b) n d.qubits items d.opened
-opened {R} a b old n d e items names courses editions fresh records run planted new s is =
+pub opened : {R : Type 0} (passed : R → Bool) (a b : Inside R) (old : Held R) (n : List ℕ) (d : Course) (e : Edition) (items : List ℕ) → b.names.keys ≡ a.names.keys ++ n ∷ [] → b.courses.items ≡ a.courses.items ++ d ∷ [] → d.editions.items ≡ e ∷ [] → version_of e ≡ fresh_version e.root → b.records.items ≡ a.records.items ++ replicate (length b.nodes - length a.nodes) None → run_maybe (root_tree b.nodes e.root) ≡ items → PlantsMaybe a.nodes b.nodes (build items) e.root → circuit_at old.circuits n ≡ None → IsSound passed a → seen a ≡ old → Opens old (seen b) n d.qubits items d.opened
+opened {R} passed a b old n d e items names courses editions fresh records run planted new s is =
     let absent_there : circuit_at (seen a).circuits n ≡ None = ap (λ h. circuit_at h.circuits n) is ∙ new in
     let circuits : (seen b).circuits ≡ (seen a).circuits ++ record { name = n; qubits = d.qubits; opened = d.opened; versions = fresh_version e.root ∷ [] } ∷ [] =
-    circuits_more a b n d e names courses editions s ∙ ap (λ v. circuits_of a.names.keys a.courses.items ++ record { name = n; qubits = d.qubits; opened = d.opened; versions = v ∷ [] } ∷ []) fresh in
+    circuits_more passed a b n d e names courses editions s ∙ ap (λ v. circuits_of a.names.keys a.courses.items ++ record { name = n; qubits = d.qubits; opened = d.opened; versions = v ∷ [] } ∷ []) fresh in
     subst (λ h. Opens h (seen b) n d.qubits items d.opened) is (record {
       root = e.root;
       run = run;
       planted = planted;
       circuits = circuits;
       version = ap (λ cs. version_at cs n 1) circuits ∙ ap (λ o. version_in o 1) (last_circuit (seen a).circuits (record { name = n; qubits = d.qubits; opened = d.opened; versions = fresh_version e.root ∷ [] }) absent_there);
-      kept = kept_grown a b (length b.nodes - length a.nodes) records;
+      kept = kept_grown passed a b (length b.nodes - length a.nodes) records;
     })

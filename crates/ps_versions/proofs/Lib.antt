@@ -1,6 +1,9 @@
 pub mod Lookups
 pub mod Counting
-pub mod Weights
+pub mod Totals
+pub mod Filling
+pub mod Pruning
+pub mod Lighter
 pub mod Heights
 pub mod Growths
 pub mod Gaining
@@ -8,3 +11,4 @@ pub mod Finding
 pub mod Ends
 pub mod Storing
 pub mod Telling
+pub mod Reaching

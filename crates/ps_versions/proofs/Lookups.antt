@@ -1,13 +1,19 @@
 -- Circuits and versions as they lie in the fields.
-use Rattle.std.proofs.Common.{◌≡◌, ℕ, zero, suc, ◌-◌, ◌<◌, ◌≤◌, List, [], ◌∷◌, length, set, get_or, refl, sym, ap, ◌∙◌, subst, arith, nat_eq, ◌⊎◌, inl, inr}
-use Rattle.std.specs.Prelude.{Option, Some, None, MatchOption, IsSome, position, slice_get, slice_index_or, slice_set}
+use Rattle.std.proofs.Common.{◌≡◌, ℕ, zero, suc, ◌-◌, ◌<◌, ◌≤◌, List, [], ◌∷◌, length, set, get_or, refl, sym, ap, ◌∙◌, subst, arith, nat_eq, ◌⊎◌, inl, inr, Bool, true, false}
+use Rattle.std.specs.Prelude.{Option, Some, None, IfSome, MatchOption, IsSome, position, slice_get, slice_index_or, slice_set}
 use Rattle.std.specs.Cmp.Lexicographic.{pointwise}
 use Rattle.std.proofs.lemmas.List.Quantifiers.{position-Some}
-use Rattle.std.proofs.lemmas.Option.{slice_get_past}
+use Rattle.std.specs.List.{position_or_len, IsDistinct, AllByRecursion}
+use Rattle.std.proofs.lemmas.Option.{slice_get_past, slice_get-get_or}
+use Rattle.std.proofs.lemmas.List.{length-set}
+use Rattle.std.proofs.lemmas.List.Sums.{position_or_len_is}
+use Rattle.std.proofs.lemmas.Cmp.{nat_list_eq_equiv}
+use Rattle.std.proofs.lemmas.Bool.Decides.{nat_tests}
+use Rattle.std.proofs.lemmas.Grind.{common_steps}
 use Rattle.ps_versions.specs.Held.{Version, Circuit}
 use Rattle.ps_versions.specs.Lookup.{names_of, place_of, circuit_in, circuit_at, version_in, change_at}
 use Rattle.ps_versions.specs.Lives.{IsLive, IsPinned}
-use Rattle.ps_versions.specs.Views.{version_of, versions_of, circuit_of, circuits_of, kept_of}
+use Rattle.ps_versions.specs.Views.{version_of, versions_of, circuit_of, circuits_of, kept_of, EndsLive}
 use Rattle.ps_versions.specs.declared.data.Edition.{Edition}
 use Rattle.ps_versions.specs.declared.data.Course.{Course}
 use Rattle.ps_versions.specs.declared.data.Stored.{Stored}
@@ -134,3 +140,65 @@ live_there (Some v) h = refl
 pub pinned_there : (o : Option Version) → IsPinned o → IsSome o
 pinned_there None h = absurd h
 pinned_there (Some v) h = refl
+
+-- the latest version of a circuit is live
+pub live_last : (n : List ℕ) (c : Course) → 0 < length c.editions.items → EndsLive c.editions.items → IsLive (version_in (Some (circuit_of n c)) (length c.editions.items))
+live_last n c some ends =
+    let es = c.editions.items in
+    let none : Edition = record { root = None; retired = None; ended = None; pins = 0 } in
+    let e : Edition = get_or es (length es - 1) none in
+    let got : slice_get es (length es - 1) ≡ Some e = slice_get-get_or es (length es - 1) none (omega (arith, some)) in
+    subst (λ o. IsLive o) (sym (version_read (circuit_of n c) (length es) (version_of e) some (get-versions es (length es - 1) e got))) (ends e got)
+
+-- one version replaced
+pub ends_set : (es : List Edition) (j : ℕ) (e : Edition) → EndsLive es → (j ≡ length es - 1 → e.retired ≡ None) → EndsLive (set es j e)
+ends_set es j e ends last = λ x h. each es j (length es - 1) x (λ y r. ends y r) last (subst (λ n. slice_get (set es j e) n ≡ Some x) (omega (arith, length-set es j e)) h)
+  where
+    each : (es : List Edition) (j n : ℕ) (x : Edition) → ((y : Edition) → slice_get es n ≡ Some y → y.retired ≡ None) → (j ≡ n → e.retired ≡ None) → slice_get (set es j e) n ≡ Some x → x.retired ≡ None
+    each [] j n x ends last h = ends x h
+    each (d ∷ es) zero zero x ends last h = let same : e ≡ x = cc in ap (λ y. y.retired) (sym same) ∙ last refl
+    each (d ∷ es) zero (suc n) x ends last h = ends x h
+    each (d ∷ es) (suc j) zero x ends last h = ends x h
+    each (d ∷ es) (suc j) (suc n) x ends last h = each es j n x ends (λ q. last (ap suc q)) h
+
+-- the names of circuits are distinct
+apart : (ns : List (List ℕ)) → IsDistinct (pointwise nat_eq) ns → (k i : ℕ) → k < i → i < length ns → pointwise nat_eq (get_or ns k []) (get_or ns i []) ≡ false
+unfolding IsDistinct
+apart [] d k i h near = absurd (omega arith)
+apart (n ∷ ns) d k zero h near = absurd (omega arith)
+apart (n ∷ ns) d zero (suc i) h near = first ns i d.0 (omega arith)
+  where
+    first : (ms : List (List ℕ)) (i : ℕ) → AllByRecursion (λ y. pointwise nat_eq n y ≡ false) ms → i < length ms → pointwise nat_eq n (get_or ms i []) ≡ false
+    first [] i a h = absurd (omega arith)
+    first (m ∷ ms) zero a h = a.0
+    first (m ∷ ms) (suc i) a h = first ms i a.1 (omega arith)
+apart (n ∷ ns) d (suc k) (suc i) h near = apart ns d.1 k i (omega arith) (omega arith)
+
+turned : (a b : List ℕ) → pointwise nat_eq a b ≡ false → pointwise nat_eq b a ≡ false
+turned a b e = nat_list_eq_equiv.symm b a ∙ e
+
+place_at : (ns : List (List ℕ)) (i : ℕ) → IsDistinct (pointwise nat_eq) ns → i < length ns → position (pointwise nat_eq (get_or ns i [])) ns ≡ Some i
+place_at ns i d near =
+    let p : List ℕ → Bool = pointwise nat_eq (get_or ns i []) in
+    at_first p ns i (position_or_len_is p ns i [] (omega arith) (λ k h. turned (get_or ns k []) (get_or ns i []) (apart ns d k i h near)) (λ _. nat_list_eq_equiv.refl (get_or ns i []))) near
+  where
+    at_first : (p : List ℕ → Bool) (ys : List (List ℕ)) (n : ℕ) → position_or_len p ys ≡ n → n < length ys → position p ys ≡ Some n
+    at_first p ys n e near = grind (arith, common_steps, nat_tests)
+
+get_or-any : (ns : List (List ℕ)) (i : ℕ) (d : List ℕ) → i < length ns → get_or ns i d ≡ get_or ns i []
+get_or-any [] i d h = absurd (omega arith)
+get_or-any (n ∷ ns) zero d h = refl
+get_or-any (n ∷ ns) (suc i) d h = get_or-any ns i d (omega arith)
+
+-- the name that was read at an index
+pub place_index : (ns : List (List ℕ)) (i : ℕ) (name : List ℕ) → IsDistinct (pointwise nat_eq) ns → i < length ns → name ≡ get_or ns i name → position (pointwise nat_eq name) ns ≡ Some i
+place_index ns i name d near e = ap (λ n. position (pointwise nat_eq n) ns) (e ∙ get_or-any ns i name near) ∙ place_at ns i d near
+
+pub name_index : (ns : List (List ℕ)) (cs : List Course) (i : ℕ) (name : List ℕ) → length ns ≡ length cs → i < length ns → name ≡ get_or ns i name → IfSome (slice_get (circuits_of ns cs) i) (λ c. c.name ≡ name)
+name_index ns cs i name l near e = at ns cs i l near (sym (e ∙ get_or-any ns i name near))
+  where
+    at : (ns : List (List ℕ)) (cs : List Course) (i : ℕ) → length ns ≡ length cs → i < length ns → get_or ns i [] ≡ name → IfSome (slice_get (circuits_of ns cs) i) (λ c. c.name ≡ name)
+    at [] cs i l near e = absurd (omega arith)
+    at (n ∷ ns) [] i l near e = absurd (omega arith)
+    at (n ∷ ns) (c ∷ cs) zero l near e = e
+    at (n ∷ ns) (c ∷ cs) (suc i) l near e = at ns cs i (omega arith) (omega arith) e

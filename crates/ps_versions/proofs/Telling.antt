@@ -1,9 +1,11 @@
 -- What is told of versions and circuits, read back.
-use Rattle.std.proofs.Common.{◌≡◌, ℕ, ◌<◌, List, [], ◌∷◌, length, refl, sym, ap, arith, true}
-use Rattle.std.specs.Prelude.{Option, Some, None, IsSome, is_none}
-use Rattle.ps_versions.specs.Held.{Version, Circuit}
-use Rattle.ps_versions.specs.Lookup.{place_of, circuit_at, version_in, root_of}
-use Rattle.ps_versions.specs.Lives.{IsLive, IsPinned, IsEarlier, HasFewPins}
+use Rattle.std.proofs.Common.{◌≡◌, ℕ, ◌<◌, List, [], ◌∷◌, length, refl, sym, ap, ◌∙◌, arith, true, ◌||◌}
+use Rattle.std.specs.Prelude.{Option, Some, None, IsSome, is_none, nat_lt}
+use Rattle.ps_versions.specs.Held.{Held, Version, Circuit}
+use Rattle.ps_versions.specs.Lookup.{place_of, circuit_at, version_in, version_at, root_of}
+use Rattle.ps_versions.specs.Reached.{is_segment, is_reached}
+use Rattle.ps_versions.proofs.Reaching.{reached_by}
+use Rattle.ps_versions.specs.Lives.{is_kept, IsLive, IsPinned, IsEarlier, HasFewPins}
 use Rattle.ps_versions.specs.Spliced.{latest_of, latest_root}
 use Rattle.ps_versions.specs.Told.{about, Tells}
 use Rattle.ps_versions.specs.declared.data.About.{About}
@@ -48,3 +50,13 @@ pub nobody : (cs : List Circuit) (name : List ℕ) → cs ≡ [] → circuit_at 
 unfolding place_of
 nobody [] name e = refl
 nobody (c ∷ cs) name e = cc
+
+-- a segment of a version that has no end is reached
+pub reached_told : {R : Type 0} (h : Held R) (name : List ℕ) (n k : ℕ) (s : State) → is_segment h (version_at h.circuits name n) k ≡ true → Tells (version_at h.circuits name n) s → is_none s.ended ≡ (is_none s.retired || nat_lt 0 s.pins) → is_none s.ended ≡ true → is_reached h k ≡ true
+reached_told h name n k s seg told kept ended = at (version_at h.circuits name n) refl seg told
+  where
+    at : (o : Option Version) → version_at h.circuits name n ≡ o → is_segment h o k ≡ true → Tells o s → is_reached h k ≡ true
+    at None e seg told = absurd told
+    at (Some v) e seg told =
+        let same : is_kept v ≡ (is_none s.retired || nat_lt 0 s.pins) = ap (λ r. is_none r || nat_lt 0 v.pins) (sym told.0) ∙ ap (λ m. is_none s.retired || nat_lt 0 m) (sym told.1) in
+        reached_by h name n v k e (same ∙ sym kept ∙ ended) seg

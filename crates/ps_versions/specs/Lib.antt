@@ -7,5 +7,7 @@ pub mod Views
 pub mod Opened
 pub mod Walks
 pub mod Questions
+pub mod Reached
+pub mod Choices
 pub mod Spliced
 pub mod Gains

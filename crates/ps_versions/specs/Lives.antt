@@ -49,6 +49,11 @@ abbrev pub IsEarlier : Option Circuit → ℕ → Type 0
 IsEarlier None number = ⊥
 IsEarlier (Some c) number = number < length c.versions
 
+-- where the version is the latest of its circuit, no entry retired it
+abbrev pub IsLiveAtEnd : Option Circuit → ℕ → Option ℕ → Type 0
+IsLiveAtEnd None number retired = Unit {0}
+IsLiveAtEnd (Some c) number retired = number ≡ length c.versions → retired ≡ None
+
 -- the version at the place is changed by f, and nothing else
 abbrev pub changed_to : (Version → Version) → List Circuit → List ℕ → ℕ → Option Version → List Circuit
 changed_to f cs name number None = cs

@@ -1,6 +1,6 @@
 -- What is asked of a version: its segments, how many keep nothing, whether it is settled, and which segments are ready.
 use Rattle.std.specs.Prelude.{ℕ, ◌≡◌, ◌<◌, length, Bool, true, false, cond, ◌&&◌, ◌||◌, not, is_none, List, [], ◌∷◌, ◌++◌, Option, Some, None}
-use Rattle.std.specs.List.{list_any, count_by}
+use Rattle.std.specs.List.{list_any, list_all, count_by}
 use Rattle.seg_tree.specs.Trees.{Tree, leaf, branch, name_of}
 use Rattle.seg_tree.specs.Table.{tree, root_tree}
 use Rattle.ps_versions.specs.Held.{Held, Version}
@@ -18,6 +18,11 @@ segments (branch name left right) = segments left ++ (segments right ++ branch n
 abbrev pub segments_maybe : Option (Tree ℕ) → List (Tree ℕ)
 segments_maybe None = []
 segments_maybe (Some t) = segments t
+
+-- the segments below the root of a tree
+abbrev pub below : Tree ℕ → List (Tree ℕ)
+below (leaf name items) = []
+below (branch name left right) = segments left ++ segments right
 
 -- whether what is kept has a sum, and whether it passed a limit
 abbrev pub is_sum : {R : Type 0} → (R → Bool) → Option (ℕ × R) → Bool
@@ -53,6 +58,10 @@ module _ {R : Type 0} (kept : List (Option (ℕ × R))) where
     abbrev pub has_passed : Tree ℕ → Bool
     has_passed t = is_passed passed (kept_by (name_of t))
 
+    -- all segments below the root of the tree have sums
+    abbrev pub below_have_sums : Tree ℕ → Bool
+    below_have_sums t = list_all has_sum (below t)
+
     -- there is no tree, or its root has a sum, or one of its segments passed a limit
     abbrev pub settled_in : Option (Tree ℕ) → Bool
     settled_in None = true
@@ -67,15 +76,15 @@ module _ {R : Type 0} (kept : List (Option (ℕ × R))) where
     abbrev pub is_ready : Tree ℕ → Bool
     is_ready t = lacks t && sides_have_sums t
 
--- the name of the first segment that is ready
+-- the name of the first segment that passes a test
 abbrev pub first_of : Bool → Option ℕ → Option ℕ → Option ℕ
 first_of true (Some k) rest = Some k
 first_of true None rest = rest
 first_of false name rest = rest
 
-abbrev pub first_ready : (Tree ℕ → Bool) → List (Tree ℕ) → Option ℕ
-first_ready ready [] = None
-first_ready ready (t ∷ ts) = first_of (ready t) (name_of t) (first_ready ready ts)
+abbrev pub first_named : (Tree ℕ → Bool) → List (Tree ℕ) → Option ℕ
+first_named test [] = None
+first_named test (t ∷ ts) = first_of (test t) (name_of t) (first_named test ts)
 
 -- the segments behind one, or all of them
 abbrev pub behind : Option ℕ → List (Tree ℕ) → List (Tree ℕ)
@@ -94,7 +103,11 @@ module _ {R : Type 0} where
 
   -- the first segment that is ready in the order of the segments, or the next one behind a segment
   abbrev pub ready_from : (R → Bool) → Held R → Option Version → Option ℕ → Option ℕ
-  ready_from passed h v after = first_ready (is_ready h.kept passed) (behind after (segments_maybe (root_tree h.nodes (root_of v))))
+  ready_from passed h v after = first_named (is_ready h.kept passed) (behind after (segments_maybe (root_tree h.nodes (root_of v))))
+
+  -- the first segment at which a limit was passed
+  abbrev pub first_passed : (R → Bool) → Held R → Option Version → Option ℕ
+  first_passed passed h v = first_named (has_passed h.kept passed) (segments_maybe (root_tree h.nodes (root_of v)))
 
 -- a node of the table that keeps nothing, and the sides of which, where it has them, keep sums: something may be stored at it
 pub record IsStorable {R : Type 0} (passed : R → Bool) (h : Held R) (k : ℕ) : Type 0 where

@@ -1,5 +1,5 @@
 -- What nodes keep.
-use Rattle.std.specs.Prelude.{ℕ, ◌≡◌, ◌≤◌, Bool, false, List, Option, Some, None, slice_index_or}
+use Rattle.std.specs.Prelude.{ℕ, ◌≡◌, ◌≤◌, Bool, true, false, List, Option, Some, None, slice_index_or}
 use Rattle.seg_tree.specs.Trees.{Tree, leaf, branch, name_of}
 use Rattle.seg_tree.specs.Measures.{uses_maybe}
 use Rattle.seg_tree.specs.Table.{root_tree, IsRoot}
@@ -13,6 +13,11 @@ module _ {R : Type 0} where
   abbrev pub HasSumIn : (R → Bool) → Option (ℕ × R) → Type 0
   HasSumIn passed None = ⊥
   HasSumIn passed (Some r) = passed r.1 ≡ false
+
+  -- what is kept says that a limit was passed
+  abbrev pub IsPassedIn : (R → Bool) → Option (ℕ × R) → Type 0
+  IsPassedIn passed None = ⊥
+  IsPassedIn passed (Some r) = passed r.1 ≡ true
 
   abbrev pub HasSumAt : (R → Bool) → List (Option (ℕ × R)) → Option ℕ → Type 0
   HasSumAt passed kept None = ⊥

@@ -1,8 +1,12 @@
 -- What is seen of the fields.
-use Rattle.std.specs.Prelude.{ℕ, ◌≡◌, ◌<◌, ◌^◌, List, [], ◌∷◌, Option, Some, None, length, slice_get}
+use Rattle.std.specs.Prelude.{ℕ, ◌≡◌, ◌<◌, ◌≤◌, ◌-◌, ◌^◌, Bool, true, List, [], ◌∷◌, Option, Some, None, length, slice_get, is_some}
+use Rattle.std.specs.List.{count_by}
+use Rattle.seg_tree.specs.Trees.{Tree}
+use Rattle.seg_tree.specs.Table.{tree}
 use Rattle.ps_versions.specs.Held.{Held, Version, Circuit}
 use Rattle.ps_versions.specs.Lives.{IsLife}
-use Rattle.ps_versions.specs.Records.{IsOnce}
+use Rattle.ps_versions.specs.Records.{record_at, IsOnce}
+use Rattle.ps_versions.specs.Questions.{is_passed, below_have_sums}
 use Rattle.ps_versions.specs.declared.data.Edition.{Edition}
 use Rattle.ps_versions.specs.declared.data.Course.{Course}
 use Rattle.ps_versions.specs.declared.data.Stored.{Stored}
@@ -22,6 +26,10 @@ abbrev pub circuits_of : List (List ℕ) → List Course → List Circuit
 circuits_of (n ∷ ns) (c ∷ cs) = circuit_of n c ∷ circuits_of ns cs
 circuits_of ns cs = []
 
+-- the last version is live
+abbrev pub EndsLive : List Edition → Type 0
+EndsLive es = (e : Edition) → slice_get es (length es - 1) ≡ Some e → e.retired ≡ None
+
 module _ {R : Type 0} where
   abbrev pub kept_of : List (Option (Stored R)) → List (Option (ℕ × R))
   kept_of [] = []
@@ -31,9 +39,18 @@ module _ {R : Type 0} where
   abbrev pub seen : Inside R → Held R
   seen a = record { circuits = circuits_of a.names.keys a.courses.items; nodes = a.nodes; kept = kept_of a.records.items }
 
-  pub record IsSound (a : Inside R) : Type 0 where
+  -- where something is kept, the segments below have sums
+  abbrev pub IsFilled : (R → Bool) → List (Tree ℕ) → List (Option (ℕ × R)) → Type 0
+  IsFilled passed nodes kept = (k : ℕ) → is_some (record_at kept k) ≡ true → below_have_sums kept passed (tree nodes k) ≡ true
+
+  pub record IsSound (passed : R → Bool) (a : Inside R) : Type 0 where
     pub named : length a.names.keys ≡ length a.courses.items
     pub recorded : length a.records.items ≡ length a.nodes
     pub numbered : (i : ℕ) (c : Course) → slice_get a.courses.items i ≡ Some c → length c.editions.items < 2 ^ 32
     pub once : (i j : ℕ) (c : Course) (e : Edition) → slice_get a.courses.items i ≡ Some c → slice_get c.editions.items j ≡ Some e → IsOnce a.nodes e.root
     pub lives : (i j : ℕ) (c : Course) (e : Edition) → slice_get a.courses.items i ≡ Some c → slice_get c.editions.items j ≡ Some e → IsLife (version_of e)
+    pub few : length a.courses.items ≤ 256
+    pub begun : (i : ℕ) (c : Course) → slice_get a.courses.items i ≡ Some c → 0 < length c.editions.items
+    pub live : (i : ℕ) (c : Course) → slice_get a.courses.items i ≡ Some c → EndsLive c.editions.items
+    pub filled : IsFilled passed a.nodes (kept_of a.records.items)
+    pub counted : a.passed ≡ count_by (is_passed passed) (kept_of a.records.items)

@@ -1,4 +1,5 @@
 //! What is kept of circuits and versions, and what is told of them.
+use ps_script::Place;
 use seg_tree::Node;
 
 /// What is told of a circuit.
@@ -21,6 +22,13 @@ pub struct State {
     pub pins: u32,
     /// The entry by which it stopped being kept, where it did.
     pub ended: Option<u32>,
+}
+
+/// A ready segment, and the version as a segment of which it was found.
+#[derive(Clone, Copy, Debug, PartialEq, Eq)]
+pub struct Ready {
+    pub place: Place,
+    pub node: Node,
 }
 
 /// A version: the root of its tree, where it has items, and what befell it.

@@ -3,12 +3,14 @@ ghost use Rattle.std.specs.Prelude.{◌≡◌, ◌<◌, ◌+◌, Some, None, len
 ghost use Rattle.ps_versions.specs.Held.{Version};
 ghost use Rattle.ps_versions.specs.Lookup.{version_at, circuit_at, replaced};
 ghost use Rattle.ps_versions.specs.Lives.{retired, pinned, unpinned, IsLive, IsPinned, IsEarlier, HasFewPins, ChangesTo, ended_where_free, ended_after};
+ghost use Rattle.ps_versions.specs.Reached.{KeepsReached};
 
 use crate::data::Edition;
+use crate::kept::Kept;
 use crate::versions::Versions;
 use ps_script::Place;
 
-impl<R> Versions<R> {
+impl<R: Kept> Versions<R> {
     /// Marks a version as retired by an entry. It is live, and not the latest of its circuit.
     pub fn retire(&mut self, place: &Place, entry: u32)
         requires live { IsLive (version_at self.old.circuits place.now.name place.now.version) }
@@ -16,6 +18,7 @@ impl<R> Versions<R> {
         ensures circuits { ChangesTo (retired entry) self.old.circuits self.new.circuits place.now.name place.now.version }
         ensures nodes { self.new.nodes ≡ self.old.nodes }
         ensures kept { self.new.kept ≡ self.old.kept }
+        ensures records { KeepsReached self.old self.new }
     {
         let edition = self.edition(place);
         let next = Edition {
@@ -34,6 +37,7 @@ impl<R> Versions<R> {
         ensures circuits { ChangesTo pinned self.old.circuits self.new.circuits place.now.name place.now.version }
         ensures nodes { self.new.nodes ≡ self.old.nodes }
         ensures kept { self.new.kept ≡ self.old.kept }
+        ensures records { KeepsReached self.old self.new }
     {
         let edition = self.edition(place);
         let next = Edition {
@@ -51,6 +55,7 @@ impl<R> Versions<R> {
         ensures circuits { ChangesTo (unpinned entry) self.old.circuits self.new.circuits place.now.name place.now.version }
         ensures nodes { self.new.nodes ≡ self.old.nodes }
         ensures kept { self.new.kept ≡ self.old.kept }
+        ensures records { KeepsReached self.old self.new }
     {
         let edition = self.edition(place);
         let pins = edition.pins - 1;

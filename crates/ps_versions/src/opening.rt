@@ -6,12 +6,13 @@ ghost use Rattle.ps_versions.specs.Lookup.{circuit_at};
 ghost use Rattle.ps_versions.specs.Opened.{Opens};
 
 use crate::data::{Course, Edition, Stored};
+use crate::kept::Kept;
 use crate::versions::Versions;
 use indexmap::IndexSet;
 use ps_script::Name;
 use std::alloc::AllocError;
 
-impl<R> Versions<R> {
+impl<R: Kept> Versions<R> {
     /// Opens a circuit with one version, the tree of which is built of the items. The name is new, and fewer than 256
     /// circuits are there. Where memory is wanting, all stays as it was.
     pub fn open(

@@ -1,12 +1,13 @@
 //! What is asked of a version, answered by a walk over the segments of its tree.
-ghost use Rattle.std.specs.Prelude.{◌≡◌, ◌<◌, ◌≤◌, Some, None, IsSome, IfSome, MatchOption, is_some, length};
-ghost use Rattle.std.specs.List.{list_any};
-ghost use Rattle.seg_tree.specs.Trees.{height};
+ghost use Rattle.std.specs.Prelude.{◌≡◌, ◌<◌, ◌≤◌, true, false, Some, None, IsSome, IfSome, MatchOption, is_some, length};
+ghost use Rattle.seg_tree.specs.Trees.{name_of, height};
+ghost use Rattle.seg_tree.specs.Measures.{IsWhole};
 ghost use Rattle.seg_tree.specs.Table.{tree, root_tree, IsRoot};
 ghost use Rattle.seg_tree.specs.Seen.{Shows};
 ghost use Rattle.ps_versions.specs.Lookup.{version_at, root_of};
-ghost use Rattle.ps_versions.specs.Records.{record_at};
-ghost use Rattle.ps_versions.specs.Questions.{segments, lacks, has_sum, has_passed, is_ready, missing_in, settled_in, missing, is_settled, ready_from, IsStorable, FindsStorable};
+ghost use Rattle.ps_versions.specs.Records.{record_at, IsPassedIn};
+ghost use Rattle.ps_versions.specs.Reached.{is_segment};
+ghost use Rattle.ps_versions.specs.Questions.{segments, lacks, has_sum, has_passed, below_have_sums, is_ready, missing_in, settled_in, missing, is_settled, ready_from, first_named, first_passed, IsStorable, FindsStorable};
 ghost use Rattle.ps_versions.specs.Walks.{visited, walked};
 
 use crate::kept::Kept;
@@ -15,9 +16,9 @@ use crate::walks::Walk;
 use ps_script::Place;
 use seg_tree::{Node, Seen};
 
-impl<R> Versions<R> {
+impl<R: Kept> Versions<R> {
     /// What a node is.
-    fn look(&self, node: Node) -> Seen<'_>
+    pub(crate) fn look(&self, node: Node) -> Seen<'_>
         requires { node < length self.now.nodes }
         ensures { Shows self.now.nodes node result }
     {
@@ -30,16 +31,19 @@ impl<R> Versions<R> {
         ensures value { result ≡ height (tree self.now.nodes node) }
         ensures few { length (segments (tree self.now.nodes node)) ≤ 131072 }
         ensures low { result ≤ 32 }
+        ensures whole { IsWhole node (tree self.now.nodes node) }
     {
         let nodes = self.nodes();
         let _ = nodes.len(node);
         nodes.height(node)
     }
 
-    /// Whether a node keeps nothing.
-    fn lacks(&self, node: Node) -> bool
+    /// Whether a node keeps nothing. Where it keeps something, all segments below it keep sums.
+    pub(crate) fn lacks(&self, node: Node) -> bool
         requires { node < length self.now.nodes }
-        ensures { result ≡ lacks self.now.kept (tree self.now.nodes node) }
+        ensures value { result ≡ lacks self.now.kept (tree self.now.nodes node) }
+        ensures named { name_of (tree self.now.nodes node) ≡ Some node }
+        ensures below { result ≡ false → below_have_sums self.now.kept R.passed (tree self.now.nodes node) ≡ true }
     {
         let _ = self.look(node);
         self.kept_at(node).is_none()
@@ -51,18 +55,20 @@ impl<R> Versions<R> {
         requires few { length (segments (tree self.now.nodes node)) ≤ 131072 }
         ensures { result ≡ missing_in self.now.kept (Some (tree self.now.nodes node)) }
     {
-        let own = u32::from(self.lacks(node));
+        if !self.lacks(node) {
+            return 0;
+        }
         match self.look(node) {
-            Seen::Leaf(_) => own,
+            Seen::Leaf(_) => 1,
             Seen::Branch(left, right) => {
                 let below = self.missing_at(left) + self.missing_at(right);
-                below + own
+                below + 1
             }
         }
     }
 
     /// Whether there is a version at a place.
-    pub(crate) fn exists(&self, place: &Place) -> bool
+    pub fn exists(&self, place: &Place) -> bool
         ensures { result ≡ is_some (version_at self.now.circuits place.now.name place.now.version) }
     {
         match self.circuit_of(place.name) {
@@ -113,34 +119,72 @@ impl<R: Kept> Versions<R> {
         }
     }
 
-    /// Whether a limit was passed at a segment of a node's tree.
-    fn any_passed(&self, node: Node) -> bool
+    /// The first segment of a node's tree at which a limit was passed.
+    fn passed_at(&self, node: Node) -> Option<Node>
         requires { node < length self.now.nodes }
-        ensures { result ≡ list_any (has_passed self.now.kept R.passed) (segments (tree self.now.nodes node)) }
+        ensures { result ≡ first_named (has_passed self.now.kept R.passed) (segments (tree self.now.nodes node)) }
     {
-        if self.has_passed(node) {
-            return true;
+        if !self.lacks(node) {
+            return if self.has_passed(node) { Some(node) } else { None };
         }
         match self.look(node) {
-            Seen::Leaf(_) => false,
-            Seen::Branch(left, right) => { self.any_passed(left) || self.any_passed(right) }
+            Seen::Leaf(_) => None,
+            Seen::Branch(left, right) => match self.passed_at(left) {
+                Some(first) => Some(first),
+                None => self.passed_at(right),
+            },
         }
     }
 
+    /// The same, told without a walk where no limit was passed anywhere.
+    fn passed_in(&self, node: Node) -> Option<Node>
+        requires { node < length self.now.nodes }
+        ensures { result ≡ first_named (has_passed self.now.kept R.passed) (segments (tree self.now.nodes node)) }
+    {
+        if self.passed == 0 {
+            return None;
+        }
+        self.passed_at(node)
+    }
+
+    /// Whether a tree is settled: its root keeps a sum, or a limit was passed at one of its segments.
+    pub(crate) fn is_settled(&self, root: Node) -> bool
+        requires { root < length self.now.nodes }
+        ensures { result ≡ settled_in self.now.kept R.passed (Some (tree self.now.nodes root)) }
+    {
+        self.has_sum(root) || self.passed_in(root).is_some()
+    }
+
     /// Whether a version, which exists, is settled: it has no items, or its root keeps a sum, or a limit was passed at
-    /// one of its segments.
+    /// one of its segments. Where no limit was passed anywhere, its root alone is looked at.
     pub fn settled(&self, place: &Place) -> bool
         requires { IsSome (version_at self.now.circuits place.now.name place.now.version) }
         ensures { result ≡ is_settled R.passed self.now (version_at self.now.circuits place.now.name place.now.version) }
     {
         match self.root(place) {
             None => true,
-            Some(root) => self.has_sum(root) || self.any_passed(root),
+            Some(root) => self.is_settled(root),
+        }
+    }
+
+    /// The first segment of a version, which exists, at which a limit was passed. The sides of a segment come before it,
+    /// the left one first.
+    pub fn first_passed(&self, place: &Place) -> Option<Node>
+        requires { IsSome (version_at self.now.circuits place.now.name place.now.version) }
+        ensures value { result ≡ first_passed R.passed self.now (version_at self.now.circuits place.now.name place.now.version) }
+        ensures there { IfSome result (λ k. k < length self.now.nodes) }
+        ensures passed { IfSome result (λ k. IsPassedIn R.passed (record_at self.now.kept k)) }
+        ensures segment { IfSome result (λ k. is_segment self.now (version_at self.now.circuits place.now.name place.now.version) k ≡ true) }
+    {
+        let _ = self.nodes();
+        match self.root(place) {
+            None => None,
+            Some(root) => self.passed_in(root),
         }
     }
 
     /// Whether a node keeps nothing, and its sides, where it has them, keep sums.
-    fn is_ready(&self, node: Node) -> bool
+    pub(crate) fn is_ready(&self, node: Node) -> bool
         requires { node < length self.now.nodes }
         ensures { result ≡ is_ready self.now.kept R.passed (tree self.now.nodes node) }
     {
@@ -180,13 +224,26 @@ impl<R: Kept> Versions<R> {
         }
     }
 
+    /// Whether a walk passes over a node's tree: it has found what it looks for, or what it looks for is not there.
+    fn passes_over(&self, node: Node, walk: &Walk) -> bool
+        requires { node < length self.now.nodes }
+        ensures { result ≡ true → walked (is_ready self.now.kept R.passed) walk.now (segments (tree self.now.nodes node)) ≡ walk.now }
+    {
+        let _ = self.height(node);
+        match walk {
+            Walk::Seeking(after) => node.number() < after.number(),
+            Walk::Looking => !self.lacks(node),
+            Walk::Found(_) => true,
+        }
+    }
+
     /// A walk over the segments of a node's tree.
     fn walk(&self, node: Node, walk: Walk) -> Walk
         requires { node < length self.now.nodes }
         ensures value { result ≡ walked (is_ready self.now.kept R.passed) walk (segments (tree self.now.nodes node)) }
         ensures storable { FindsStorable R.passed self.now walk → FindsStorable R.passed self.now result }
     {
-        if walk.is_found() {
+        if self.passes_over(node, &walk) {
             return walk;
         }
         match self.look(node) {
@@ -205,6 +262,7 @@ impl<R: Kept> Versions<R> {
         requires { IsSome (version_at self.now.circuits place.now.name place.now.version) }
         ensures value { result ≡ ready_from R.passed self.now (version_at self.now.circuits place.now.name place.now.version) after }
         ensures storable { IfSome result (IsStorable R.passed self.now) }
+        ensures segment { IfSome result (λ k. is_segment self.now (version_at self.now.circuits place.now.name place.now.version) k ≡ true) }
     {
         match self.root(place) {
             None => None,

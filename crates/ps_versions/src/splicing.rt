@@ -10,12 +10,13 @@ ghost use Rattle.ps_versions.specs.Gains.{Gains, HasRoom, HasCount};
 
 use crate::data::{Course, Edition, Stored};
 use crate::opening::fill;
+use crate::kept::Kept;
 use crate::versions::Versions;
 use ps_script::Name;
 use seg_tree::Node;
 use std::alloc::AllocError;
 
-impl<R> Versions<R> {
+impl<R: Kept> Versions<R> {
     /// Gives a circuit its next version, and the number of that version. Its items are those of the latest version with
     /// the ones from a place to another replaced by other items, at most 65,536, and so is their number afterwards. The
     /// circuit is there, and the number of its latest version is below 4,294,967,295. The new version shares the

@@ -1,11 +1,11 @@
 //! Worked circuits: seventeen gates and an edit of them, versions that come and go, and a limit that was passed.
-ghost use Rattle.std.specs.Prelude.{◌≡◌, ◌<◌, ◌≤◌, true, length, IsSome, IfSome};
+ghost use Rattle.std.specs.Prelude.{◌≡◌, ◌<◌, ◌≤◌, true, cond, eqb, length, IsSome, IfSome};
 ghost use Rattle.seg_tree.specs.Trees.{run_maybe};
 ghost use Rattle.ps_versions.specs.Lookup.{place_of, circuit_at, version_at};
 ghost use Rattle.ps_versions.specs.Lives.{IsLive, IsPinned, IsEarlier, HasFewPins};
 ghost use Rattle.ps_versions.specs.Spliced.{latest_of, latest_tree};
 
-use crate::{About, Kept, State, Versions};
+use crate::{About, Kept, Ready, State, Versions, Weights};
 use ps_script::{Name, Place};
 use seg_tree::{Node, Nodes, Seen};
 use std::alloc::{AllocError, Global};
@@ -203,6 +203,7 @@ fn all_ready(
 }
 
 /// Keeps a note at the first ready segment of a version, by entry 20, and gives the segment's number.
+#[tactic(auto, using(crate::proofs::Telling::reached_told))]
 fn keep_first(
     rt: &impl Abort,
     versions: &mut Versions<Note>,
@@ -210,6 +211,7 @@ fn keep_first(
     passed: bool,
 ) -> Option<u64> {
     assert!(rt; versions.exists(place));
+    assert!(rt; versions.state(place).ended.is_none());
     match versions.ready(place, None) {
         None => None,
         Some(node) => {
@@ -408,4 +410,104 @@ fn a_limit_settles(rt: HostRuntime) -> Result<(), Fail> {
     let other = crate::tests::name(&rt, b"d");
     assert_eq!(rt; empty.circuit_of(other), None);
     Ok(())
+}
+
+/// One node weighs more than the others.
+#[derive(Clone, Copy)]
+struct Heavy {
+    number: u64,
+}
+
+impl Weights for Heavy {
+    ghost weight = { λ w k. cond (eqb k w.number) 5 0 };
+
+    fn weight(&self, node: Node) -> u32 {
+        if node.number() == self.number { 5 } else { 0 }
+    }
+}
+
+/// Asserts which ready segment is taken where one node is heavy: the number of its version, and its own.
+fn assert_lightest(
+    rt: &impl Abort,
+    versions: &Versions<Note>,
+    heavy: u64,
+    want: Option<(Name, u32, u64)>,
+) {
+    match versions.lightest(&Heavy { number: heavy }) {
+        None => assert!(rt; want.is_none()),
+        Some(ready) => match want {
+            None => panic!(rt; "nothing is ready"),
+            Some((name, version, number)) => {
+                assert!(rt; ready.place.name == name && ready.place.version == version);
+                assert_eq!(rt; ready.node.number(), number);
+            }
+        },
+    }
+}
+
+#[test]
+fn takes_the_lightest(rt: HostRuntime) -> Result<(), Fail> {
+    let alloc = rt.alloc();
+    let name = name(&rt, b"a");
+    let mut versions = one_circuit(&rt, alloc, name, 9)?;
+    let first = Place { name, version: 1 };
+    // leaves 0 and 1, and the branch 2
+    assert_lightest(&rt, &versions, 7, Some((name, 1, 0)));
+    assert_lightest(&rt, &versions, 0, Some((name, 1, 1)));
+    assert_eq!(rt; keep_first(&rt, &mut versions, &first, false), Some(0));
+    assert_lightest(&rt, &versions, 1, Some((name, 1, 1)));
+    // the second version has leaves 0 and 3 and the branch 4
+    assert_eq!(rt; splice(&rt, &mut versions, name, 8, 9, 50)?, 2);
+    let second = Place { name, version: 2 };
+    assert_lightest(&rt, &versions, 1, Some((name, 2, 3)));
+    assert!(rt; versions.comes_before(&first, &second));
+    assert!(rt; !versions.comes_before(&second, &first));
+    act(&rt, &mut versions, name, Deed::Retire(1, 30))?;
+    assert_lightest(&rt, &versions, 3, Some((name, 2, 3)));
+    assert!(rt; versions.exists(&first));
+    let before = Some(Ready {
+        place: first,
+        node: match versions.root(&first) {
+            None => panic!(rt; "no root"),
+            Some(root) => root,
+        },
+    });
+    assert!(rt; versions.exists(&second));
+    assert_eq!(rt; versions.lightest_at(&second, &Heavy { number: 3 }, before), before);
+    let _ = keep_all(&rt, alloc, &mut versions, &second)?;
+    assert_lightest(&rt, &versions, 7, None);
+    Ok(())
+}
+
+#[test]
+fn finds_the_first_limit(rt: HostRuntime) -> Result<(), Fail> {
+    let alloc = rt.alloc();
+    let name = name(&rt, b"a");
+    let place = Place { name, version: 1 };
+    let mut versions = one_circuit(&rt, alloc, name, 17)?;
+    assert_eq!(rt; keep_first(&rt, &mut versions, &place, false), Some(0));
+    assert!(rt; versions.exists(&place));
+    assert_eq!(rt; versions.first_passed(&place), None);
+    assert_eq!(rt; keep_first(&rt, &mut versions, &place, true), Some(1));
+    assert!(rt; versions.exists(&place));
+    match versions.first_passed(&place) {
+        None => panic!(rt; "a limit was passed"),
+        Some(node) => assert_eq!(rt; node.number(), 1),
+    }
+    assert_eq!(rt; versions.count(), 1);
+    assert!(rt; versions.count() > 0);
+    let (found, about) = versions.circuit(0);
+    assert!(rt; found == name && about.latest == 1);
+    let _ = across(versions);
+    Ok(())
+}
+
+/// What may go to another thread.
+fn cross<T: Send>(value: T) -> T {
+    value
+}
+
+/// Versions may go to another thread where what is kept may.
+fn across<R: Kept + Send>(versions: Versions<R>) -> Versions<R> {
+    cross(versions)
 }

@@ -5,6 +5,7 @@
 #![tactic(auto)]
 
 pub mod calls;
+pub mod contents;
 pub mod cuts;
 pub mod drafts;
 pub mod growth;

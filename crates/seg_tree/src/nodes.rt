@@ -88,6 +88,7 @@ impl Nodes {
         ensures balanced { IsBalanced (tree self.now node) }
         ensures bound { 2 ^ result ≤ leaves (tree self.now node) * leaves (tree self.now node) }
         ensures filled { leaves (tree self.now node) ≤ length (run (tree self.now node)) }
+        ensures whole { IsWhole node (tree self.now node) }
     {
         let draft = self.draft(node);
         self.height_of(&draft)

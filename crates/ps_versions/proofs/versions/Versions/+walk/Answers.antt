@@ -2,11 +2,8 @@ use Rattle.std.proofs.Common.{Some, sym, ap, ◌∙◌}
 use Rattle.seg_tree.specs.Table.{tree}
 use Rattle.ps_versions.specs.Questions.{segments, is_ready}
 use Rattle.ps_versions.specs.Walks.{visited, walked}
-use Rattle.ps_versions.proofs.Counting.{walk_over, walk_branch}
+use Rattle.ps_versions.proofs.Counting.{walk_branch}
 use Rattle.ps_versions.proofs.versions.Versions.+walk.Goals as goal
-
-pub returns-then-is_found-clause-value : goal.returns-then-is_found-clause-value
-returns-then-is_found-clause-value g t c = walk_over (is_ready c.args.self.now.kept g.R.Kept.passed) c.args.walk (segments (tree c.args.self.now.nodes c.args.node)) (sym c.is_found.ensures ∙ c.if-is_found.true)
 
 pub returns-in-Branch-clause-value : goal.returns-in-Branch-clause-value
 returns-in-Branch-clause-value g t c =

@@ -1,13 +1,13 @@
-use Rattle.std.proofs.Common.{◌≡◌, ℕ, ◌-◌, ◌<◌, length, get_or, [], refl, sym, ap, ◌∙◌, subst, arith}
-use Rattle.std.specs.Prelude.{Some, IsSome, slice_get}
+use Rattle.std.proofs.Common.{◌≡◌, ℕ, ◌-◌, ◌<◌, ◌≤◌, length, get_or, [], refl, sym, ap, ◌∙◌, subst, arith}
+use Rattle.std.specs.Prelude.{Some, None, IsSome, slice_get}
 use Rattle.std.proofs.lemmas.Option.{slice_get_read}
 use Rattle.std.proofs.lemmas.List.{length-set}
 use Rattle.ps_versions.specs.Lookup.{circuit_at, version_in, change_at, with_version, replaced_in}
-use Rattle.ps_versions.specs.Lives.{IsLife}
+use Rattle.ps_versions.specs.Lives.{IsLife, IsLiveAtEnd}
 use Rattle.ps_versions.specs.Records.{IsOnce}
-use Rattle.ps_versions.specs.Views.{circuit_of, version_of}
+use Rattle.ps_versions.specs.Views.{circuit_of, version_of, EndsLive}
 use Rattle.ps_versions.specs.declared.data.Edition.{Edition}
-use Rattle.ps_versions.proofs.Lookups.{length-circuits, get-circuits, length-versions, version_there, versions-set, circuits-set, each_set}
+use Rattle.ps_versions.proofs.Lookups.{length-circuits, get-circuits, length-versions, version_there, versions-set, circuits-set, each_set, ends_set}
 use Rattle.ps_versions.proofs.versions.Versions.replace.Goals as goal
 
 pub index_mut-course-requires : goal.index_mut-course-requires
@@ -42,6 +42,7 @@ invariant_of-self g c =
     let es = course.editions.items in
     let nodes = c.self.inside.nodes in
     let once : IsOnce nodes c.args.edition.root = subst (λ h. IsOnce h.nodes c.args.edition.root) (sym c.self.view_is) c.requires.once in
+    let live : v ≡ length (circuit_of (get_or keys i []) course).versions → c.args.edition.retired ≡ None = subst (λ o. IsLiveAtEnd o v c.args.edition.retired) found c.requires.live in
     record {
       named = c.self.invariant.named ∙ sym (length-set cs i _);
       recorded = c.self.invariant.recorded;
@@ -50,6 +51,11 @@ invariant_of-self g c =
           (each_set (λ y. IsOnce nodes y.root) es (v - 1) c.args.edition (λ j y r. c.self.invariant.once i j course y got r) once) k x h j y r;
       lives = λ k j x y h r. each_set (λ z. (j : ℕ) (y : Edition) → slice_get z.editions.items j ≡ Some y → IsLife (version_of y)) cs i _ (λ k x h j y r. c.self.invariant.lives k j x y h r)
           (each_set (λ y. IsLife (version_of y)) es (v - 1) c.args.edition (λ j y r. c.self.invariant.lives i j course y got r) c.requires.life) k x h j y r;
+      few = subst (λ n. n ≤ 256) (sym (length-set cs i _)) c.self.invariant.few;
+      begun = each_set (λ x. 0 < length x.editions.items) cs i _ c.self.invariant.begun (omega (arith, length-set es (v - 1) c.args.edition, below));
+      live = each_set (λ x. EndsLive x.editions.items) cs i _ c.self.invariant.live (ends_set es (v - 1) c.args.edition (c.self.invariant.live i course got) (λ last. live (omega (arith, last, there.0, below, length-versions es))));
+      filled = c.self.invariant.filled;
+      counted = c.self.invariant.counted;
     }
 
 pub returns-clause-circuits : goal.returns-clause-circuits

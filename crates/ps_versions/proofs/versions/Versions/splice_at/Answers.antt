@@ -1,4 +1,4 @@
-use Rattle.std.proofs.Common.{◌≡◌, ℕ, ◌+◌, ◌-◌, ◌*◌, ◌<◌, ◌≤◌, ◌++◌, max, List, [], ◌∷◌, length, replicate, refl, sym, ap, ◌∙◌, subst, arith}
+use Rattle.std.proofs.Common.{◌≡◌, ℕ, ◌+◌, ◌-◌, ◌*◌, ◌<◌, ◌≤◌, ◌++◌, max, List, [], ◌∷◌, length, replicate, refl, sym, ap, ◌∙◌, subst, arith, append-nil}
 use Rattle.std.specs.Prelude.{None, slice_get, vec_len}
 use Rattle.seg_tree.specs.Trees.{Tree, build, splice}
 use Rattle.seg_tree.specs.Measures.{height_maybe, uses_maybe}
@@ -13,7 +13,7 @@ use Rattle.ps_versions.proofs.Lookups.{length-circuits}
 use Rattle.ps_versions.proofs.Ends.{fresh_life}
 use Rattle.ps_versions.proofs.Heights.{low-build}
 use Rattle.ps_versions.proofs.Growths.{once_new}
-use Rattle.ps_versions.proofs.Gaining.{gains_length, gains_then, sound_gains, no_more, one_more, keeps_all, keeps_same, seen_same, count_of, spliced}
+use Rattle.ps_versions.proofs.Gaining.{gains_length, gains_then, sound_gains, ends_more, ends_same, no_more, one_more, keeps_all, keeps_same, seen_same, count_of, spliced}
 use Rattle.ps_versions.specs.declared.data.Edition.{Edition}
 use Rattle.ps_versions.proofs.versions.Versions.splice_at.Goals as goal
 
@@ -26,9 +26,12 @@ invariant_of-self g c =
     let i = c.args.index in
     let gains : Gains a.courses.items c.make_place.new.courses.items i [] = c.make_place.ensures.courses in
     let few : length gains.was.editions.items < 4294967296 = c.self.invariant.numbered i gains.was gains.there in
-    sound_gains a (record { names = a.names; courses = c.make_place.new.courses; nodes = a.nodes; records = c.make_place.new.records }) i [] refl gains (keeps_all a.nodes)
+    sound_gains g.R.Kept.passed a (record { names = a.names; courses = c.make_place.new.courses; nodes = a.nodes; records = c.make_place.new.records; passed = a.passed }) i [] 0 refl gains (keeps_all a.nodes)
+    (c.make_place.ensures.records ∙ sym (append-nil a.records.items))
     (ap length c.make_place.ensures.records ∙ c.self.invariant.recorded)
+    refl
     (omega (arith, few))
+    (ends_same gains.was.editions.items (c.self.invariant.live i gains.was gains.there))
     (no_more (λ y. IsOnce a.nodes y.root))
     (no_more (λ y. IsLife (version_of y)))
     c.self.invariant
@@ -38,7 +41,7 @@ returns-in_default-clause-err g c =
     let a = c.self.inside in
     let i = c.args.index in
     let gains : Gains a.courses.items c.make_place.new.courses.items i [] = c.make_place.ensures.courses in
-    seen_same a (record { names = a.names; courses = c.make_place.new.courses; nodes = a.nodes; records = c.make_place.new.records }) i refl gains refl c.make_place.ensures.records c.self.invariant ∙ c.self.view_is
+    seen_same g.R.Kept.passed a (record { names = a.names; courses = c.make_place.new.courses; nodes = a.nodes; records = c.make_place.new.records; passed = a.passed }) i refl gains refl c.make_place.ensures.records c.self.invariant ∙ c.self.view_is
 
 pub invariant_of-self-in_default-splice : goal.invariant_of-self-in_default-splice
 invariant_of-self-in_default-splice g c =
@@ -47,9 +50,12 @@ invariant_of-self-in_default-splice g c =
     let gains : Gains a.courses.items c.make_place.new.courses.items i [] = c.make_place.ensures.courses in
     let few : length gains.was.editions.items < 4294967296 = c.self.invariant.numbered i gains.was gains.there in
     let stays : c.splice.new.self ≡ a.nodes = c.in_default-splice.ensures.err in
-    sound_gains a (record { names = a.names; courses = c.make_place.new.courses; nodes = c.splice.new.self; records = c.make_place.new.records }) i [] refl gains (keeps_same a.nodes c.splice.new.self stays)
+    sound_gains g.R.Kept.passed a (record { names = a.names; courses = c.make_place.new.courses; nodes = c.splice.new.self; records = c.make_place.new.records; passed = a.passed }) i [] 0 refl gains (keeps_same a.nodes c.splice.new.self stays)
+    (c.make_place.ensures.records ∙ sym (append-nil a.records.items))
     (ap length c.make_place.ensures.records ∙ c.self.invariant.recorded ∙ ap length (sym stays))
+    refl
     (omega (arith, few))
+    (ends_same gains.was.editions.items (c.self.invariant.live i gains.was gains.there))
     (no_more (λ y. IsOnce c.splice.new.self y.root))
     (no_more (λ y. IsLife (version_of y)))
     c.self.invariant
@@ -60,7 +66,7 @@ returns-in_default-splice-clause-err g c =
     let i = c.args.index in
     let gains : Gains a.courses.items c.make_place.new.courses.items i [] = c.make_place.ensures.courses in
     let stays : c.splice.new.self ≡ a.nodes = c.in_default-splice.ensures.err in
-    seen_same a (record { names = a.names; courses = c.make_place.new.courses; nodes = c.splice.new.self; records = c.make_place.new.records }) i refl gains stays c.make_place.ensures.records c.self.invariant ∙ c.self.view_is
+    seen_same g.R.Kept.passed a (record { names = a.names; courses = c.make_place.new.courses; nodes = c.splice.new.self; records = c.make_place.new.records; passed = a.passed }) i refl gains stays c.make_place.ensures.records c.self.invariant ∙ c.self.view_is
 
 pub fill-requires-clause-room : goal.fill-requires-clause-room
 fill-requires-clause-room g c =
@@ -105,9 +111,12 @@ invariant_of-self-2 g c =
     let nodes_is : a.nodes ≡ c.args.self.now.nodes = ap (λ h. h.nodes) c.self.view_is in
     let before : IsOnce a.nodes r = subst (λ (ts : List (Tree ℕ)). IsOnce ts r) (sym nodes_is) c.latest_root-root.ensures.once in
     let counted : length both.was.editions.items ≡ c.in-Ok.count = c.in-Ok.ensures.count both.was both.there in
-    sound_gains a (record { names = a.names; courses = c.add_version.new.courses; nodes = c.splice.new.self; records = c.fill.new.records }) i (e ∷ []) refl both planted.kept
+    sound_gains g.R.Kept.passed a (record { names = a.names; courses = c.add_version.new.courses; nodes = c.splice.new.self; records = c.fill.new.records; passed = a.passed }) i (e ∷ []) (c.count.result - vec_len c.make_place.new.records) refl both planted.kept
+    (c.fill.ensures.items ∙ ap (λ rs. rs ++ replicate (c.count.result - vec_len c.make_place.new.records) None) c.make_place.ensures.records)
     (omega (arith, c.fill.ensures.len, c.count.ensures, c.fill.new.records.ok.0))
+    refl
     (omega (arith, counted, small))
+    (ends_more both.was.editions.items e refl)
     (one_more (λ y. IsOnce c.splice.new.self y.root) e (once_new (length a.nodes) (length c.splice.new.self) c.splice.new.self c.in-Ok-splice.next (λ k. uses_maybe k (root_tree a.nodes r)) planted.within passes before.once))
     (one_more (λ y. IsLife (version_of y)) e (fresh_life e.root))
     c.self.invariant
@@ -126,7 +135,7 @@ returns-clause-spliced g c =
     let planted : PlantsMaybe a.nodes c.splice.new.self (splice (root_tree a.nodes r) c.args.from c.args.to c.args.items.now) c.in-Ok-splice.next = c.in-Ok-splice.ensures.tree in
     let passes : Passes (length a.nodes) (length c.splice.new.self) (λ k. uses_maybe k (root_tree a.nodes r)) (λ k. uses_maybe k (root_tree c.splice.new.self c.in-Ok-splice.next)) = c.in-Ok-splice.ensures.nodes in
     let more : c.count.result - vec_len c.make_place.new.records ≡ length c.splice.new.self - length a.nodes = omega (arith, c.count.ensures, c.make_place.new.records.ok.0, ap length c.make_place.ensures.records, c.self.invariant.recorded) in
-    spliced a (record { names = a.names; courses = c.add_version.new.courses; nodes = c.splice.new.self; records = c.fill.new.records }) c.args.self.now i c.args.from c.args.to (c.in-Ok.count + 1) c.args.items.now e r refl both refl
+    spliced g.R.Kept.passed a (record { names = a.names; courses = c.add_version.new.courses; nodes = c.splice.new.self; records = c.fill.new.records; passed = a.passed }) c.args.self.now i c.args.from c.args.to (c.in-Ok.count + 1) c.args.items.now e r refl both refl
     (c.fill.ensures.items ∙ ap (λ rs. rs ++ replicate (c.count.result - vec_len c.make_place.new.records) None) c.make_place.ensures.records ∙ ap (λ m. a.records.items ++ replicate m None) more)
     (c.latest_root-root.ensures.value ∙ ap (λ h. latest_root (slice_get h.circuits i)) (sym c.self.view_is))
     c.in-Ok-splice.ensures.run
