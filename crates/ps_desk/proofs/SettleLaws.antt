@@ -1,5 +1,5 @@
 -- A seat that took another back looks, and has seen the longer list.
-use Rattle.std.proofs.Common.{◌≡◌, ℕ, ◌<◌, ◌≤◌, true, List, [], length, Option, None, refl, sym, ap, subst, ⊎_elim, arith, slice_index, slice_set}
+use Rattle.std.proofs.Common.{◌≡◌, ℕ, true, List, [], Option, None, refl, sym, ap, subst, ⊎_elim, arith, slice_index, slice_set}
 use mathlib.Core.Option.{some}
 use lib.ListN.{get_elem?}
 use Rattle.atomic_table.specs.Table.{State, Allows, keeps}

@@ -1,5 +1,5 @@
 -- Taking the object at one's turn, and giving it back with one entry more, keep the rule.
-use Rattle.std.proofs.Common.{◌≡◌, ◌≢◌, ℕ, ◌+◌, ◌%◌, ◌^◌, ◌<◌, ◌≤◌, true, map, List, [], ◌∷◌, ◌++◌, length, length-append, append-nil, Option, Some, None, refl, sym, ap, ◌∙◌, subst, ⊎_elim, arith, slice_index, slice_set}
+use Rattle.std.proofs.Common.{◌≡◌, ◌≢◌, ℕ, ◌+◌, ◌%◌, ◌^◌, ◌<◌, ◌≤◌, true, map, List, [], ◌∷◌, ◌++◌, length, length-append, Option, Some, None, refl, sym, ap, ◌∙◌, subst, ⊎_elim, arith, slice_index, slice_set}
 use mathlib.Core.Option.{some, none, some-injective}
 use mathlib.Core.Logic.{dite}
 use native.Mathlib.Decide.{ℕ_discrete}
@@ -16,6 +16,18 @@ use Rattle.ps_desk.proofs.TotalLemmas.{total_set}
 use Rattle.ps_desk.proofs.ListLemmas.{map_set, set_there, own_else, own_here, begins_more, begins_self}
 use Rattle.ps_desk.proofs.ViewLemmas.{apart_set, waits_set, one_more}
 use Rattle.ps_desk.proofs.DrawLaws.{tickets_below}
+
+some_same : {A : Type 0} {a b : A} → Some a ≡ Some b → a ≡ b
+some_same e = cc
+
+-- What a seat holds first.
+held_first : {O : Type 0} → List (ℕ × Option O) → Option O
+held_first [] = None
+held_first (x ∷ xs) = x.1
+
+same_object : {O : Type 0} (o o' : O) (c d : List (ℕ × Option O)) → c ≡ (0, Some o) ∷ [] → d ≡ (0, Some o') ∷ [] → c ≡ d → o ≡ o'
+unfolding held_first
+same_object o o' c d ec ed e = some_same (sym (ap held_first ec) ∙ (ap held_first e ∙ ap held_first ed))
 
 has_ticket : (o : Option ℕ) (n : ℕ) → Dec (o ≡ Some n)
 has_ticket None n = no (λ e. cc)
@@ -39,6 +51,15 @@ module _ {O C R : Type 0} (journal : O → List (Entry C R)) (spare : O → ℕ)
             let same : j ≡ id = r.apart j id (length r.history) u v e at f mine in
             ap (λ (y : View C R). y.found) (some-injective u v (sym e ∙ (ap (get_elem? s.views) same ∙ at))) ∙ calm)
       ]) refl
+
+  -- The object that a seat holds and the journal that it found tell the one new entry.
+  same_entry : (v : View C R) (o o' : O) (h h' : List (Entry C R)) (x x' : Entry C R) → o ≡ o' → h ≡ h' → journal o ≡ h ++ x ∷ [] → journal o' ≡ h' ++ x' ∷ []
+      → after v h x ≡ after v h' x'
+  same_entry v o o' h h' x x' eo eh adds adds' =
+      let back : h ++ x' ∷ [] ≡ h ++ x ∷ [] = ap (λ (k : List (Entry C R)). k ++ x' ∷ []) eh ∙ (sym adds' ∙ (ap journal (sym eo) ∙ adds)) in
+      let tails : x' ∷ [] ≡ x ∷ [] = append_cancel_left h (x' ∷ []) (x ∷ []) back in
+      let ex : x ≡ x' = cc in
+      ap (λ (k : List (Entry C R)). after v k x) eh ∙ ap (λ (k : Entry C R). after v h' k) ex
 
   module _ (id : ℕ) (v : View C R) (live : v.live ≡ true) where
     -- A load that finds another ticket changes nothing.
@@ -201,12 +222,6 @@ module _ {O C R : Type 0} (journal : O → List (Entry C R)) (spare : O → ℕ)
         tt,
         gives_it s r wide at,
         (λ o' h' x' held found adds'.
-            let one : (0, Some o) ≡ (0, Some o') = cc in
-            let inner : Some o ≡ Some o' = ap (λ (k : ℕ × Option O). k.1) one in
-            let eo : o ≡ o' = cc in
-            let eh : h ≡ h' = let z : Some h ≡ Some h' = sym mine ∙ found in cc in
-            let back : h ++ x' ∷ [] ≡ h ++ x ∷ [] = ap (λ k. k ++ x' ∷ []) eh ∙ (sym adds' ∙ (ap journal (sym eo) ∙ adds)) in
-            let tails : x' ∷ [] ≡ x ∷ [] = append_cancel_left h (x' ∷ []) (x ∷ []) back in
-            let ex : x ≡ x' = cc in
-            ap (λ (k : List (Entry C R)). (after v k x, [])) eh ∙ ap (λ (k : Entry C R). (after v h' k, [])) ex),
+            let same : o ≡ o' = same_object o o' ((0, Some o) ∷ []) ((0, Some o') ∷ []) refl refl held in
+            ap (λ (u : View C R). (u, [])) (same_entry v o o' h h' x x' same (some_same (sym mine ∙ found)) adds adds')),
       )

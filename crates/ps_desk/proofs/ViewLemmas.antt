@@ -1,13 +1,12 @@
 -- What a change of one view leaves of the rule.
-use Rattle.std.proofs.Common.{map, ◌≡◌, ◌≢◌, ℕ, ◌+◌, ◌<◌, ◌≤◌, true, List, [], ◌∷◌, ◌++◌, set, Some, None, refl, sym, ap, ◌∙◌, ⊎_elim, arith}
-use mathlib.Core.Option.{some, none, some-injective}
+use Rattle.std.proofs.Common.{◌≡◌, ◌≢◌, ℕ, ◌≤◌, true, List, [], ◌∷◌, ◌++◌, set, Some, None, sym, ap, ◌∙◌, ⊎_elim, arith}
+use mathlib.Core.Option.{some, some-injective}
 use mathlib.Core.Logic.{dite}
 use native.Mathlib.Decide.{ℕ_discrete}
 use lib.ListN.{get_elem?}
 use Rattle.atomic_table.proofs.Lists.{at_set, set_else}
 use Rattle.ps_desk.specs.declared.entry.Entry.{Entry}
 use Rattle.ps_desk.specs.declared.view.View.{View}
-use Rattle.ps_desk.specs.Views.{own_of}
 use Rattle.ps_desk.specs.Rule.{Core, Fits, Roster, NoneAtTurn, Apart, Waits}
 use Rattle.ps_desk.proofs.ListLemmas.{set_there, own_else}
 

@@ -1,5 +1,5 @@
 -- What a seat knows, and how each step changes it.
-use Rattle.std.specs.Prelude.{◌≡◌, ℕ, ◌+◌, true, false, cond, List, [], ◌∷◌, ◌++◌, filter, ◌==◌, ◌⊎◌, nat_lt, if◌then◌else◌, length, Option, Some, None}
+use Rattle.std.specs.Prelude.{◌≡◌, ℕ, ◌+◌, true, false, cond, List, [], ◌∷◌, ◌++◌, filter, ◌==◌, ◌⊎◌, nat_lt, if◌then◌else◌, length, Some, None}
 use Rattle.ps_desk.specs.declared.entry.Entry.{Entry}
 use Rattle.ps_desk.specs.declared.view.View.{View}
 use Rattle.ps_desk.specs.declared.view.Ended.{Ended}
