@@ -3,6 +3,8 @@
 //! and writers.
 #![tactic(auto)]
 
+pub mod bell;
+pub mod flags;
 pub mod gate;
 mod listing;
 pub mod memory_sink;
@@ -15,6 +17,8 @@ pub mod std_source;
 pub mod stop;
 pub mod writing;
 
+pub use bell::Bell;
+pub use flags::{Flags, Hint};
 pub use gate::{Gate, OpenGate, Point};
 pub use memory_sink::MemorySink;
 pub use memory_source::MemorySource;

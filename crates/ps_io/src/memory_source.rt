@@ -78,6 +78,7 @@ impl Source for MemorySource {
         ensures end { IfOk result (λ n. IfSome (Some self.old.left) (λ left. (n ≡ 0) ↔ (left ≡ []))) }
         ensures failed { OnErr result (Rose self.old.faults self.new.faults) }
         ensures kept { OnErr result (Some self.new.left ≡ Some self.old.left) }
+        ensures untouched { OnErr result (buf.new ≡ buf.old) }
         ensures never_falls { self.old.faults ≤ self.new.faults }
 
         // Exactly which answer it is, and what it leaves.

@@ -16,7 +16,7 @@ pub trait Source {
     ghost faults: { Self → ℕ };
 
     /// Puts the next bytes of the input at the front of `buf`, and answers how many. That is 0 exactly at the end
-    /// of the input. `Failed` comes only where the count of faults rose; nothing was given then.
+    /// of the input. `Failed` comes only where the count of faults rose; nothing was given then, and `buf` is as it was.
     fn read(&mut self, buf: &mut [u8]) -> Result<usize, Failed>
         requires { 0 < length buf.old }
         ensures count { IfOk result (λ n. n ≤ length buf.new) }
@@ -24,5 +24,6 @@ pub trait Source {
         ensures end { IfOk result (λ n. IfSome (remaining self.old) (λ left. (n ≡ 0) ↔ (left ≡ []))) }
         ensures failed { OnErr result (Rose (faults self.old) (faults self.new)) }
         ensures kept { OnErr result (remaining self.new ≡ remaining self.old) }
+        ensures untouched { OnErr result (buf.new ≡ buf.old) }
         ensures never_falls { faults self.old ≤ faults self.new };
 }

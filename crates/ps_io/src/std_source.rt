@@ -6,6 +6,9 @@ use crate::source::{Failed, Source};
 use std::io::Read;
 use std::marker::Model;
 
+/// How many bytes are asked of a reader at a time.
+const PIECE: usize = 8192;
+
 /// A source over a reader of the standard library. It tells no content.
 #[derive(Drop)]
 pub struct StdSource<R: Read> {
@@ -35,10 +38,11 @@ impl<R: Read> Source for StdSource<R> {
 
     ghost faults = { λ s. s.faults };
 
-    /// One read of the reader. Each Err of it is a fault.
+    /// One read of the reader, of at most 8,192 bytes. Each Err of it is a fault.
     fn read(&mut self, buf: &mut [u8]) -> Result<usize, Failed>
         ensures count { IfOk result (λ n. n ≤ length buf.new) }
         ensures failed { OnErr result (Rose self.old.faults self.new.faults) }
+        ensures untouched { OnErr result (buf.new ≡ buf.old) }
         ensures never_falls { self.old.faults ≤ self.new.faults }
 
         // Where the reader says what it has left, that is what was given.
@@ -46,8 +50,14 @@ impl<R: Read> Source for StdSource<R> {
         ensures no_fault { OnOk result (self.new.faults ≡ self.old.faults) }
         ensures one_fault { OnErr result (self.new.faults ≡ one_more self.old.faults) }
     {
-        match self.reader.read(buf) {
-            Ok(n) => Ok(n),
+        // a reader that fails may have written to what it was given
+        let mut piece = [0; PIECE];
+        let most = buf.len().min(PIECE);
+        match self.reader.read(&mut piece[..most]) {
+            Ok(n) => {
+                buf[..n].copy_from_slice(&piece[..n]);
+                Ok(n)
+            }
             Err(_) => {
                 self.faults = self.faults.saturating_add(1);
                 Err(Failed)

@@ -3,6 +3,7 @@ use std::alloc::{AllocError, Global};
 use std::io;
 use std::io::{ErrorKind, Read, Write};
 use std::test::Fail;
+use std::thread::join;
 
 fn source(alloc: Global, bytes: &[u8], fails: &[u64]) -> Result<MemorySource, AllocError> {
     Ok(MemorySource::new(bytes.to_vec(alloc)?, 2, fails.to_vec(alloc)?))
@@ -143,4 +144,29 @@ fn writes_to_writers(rt: HostRuntime) -> Result<(), Fail> {
 fn holds_nobody_up(rt: HostRuntime) {
     OpenGate.pass(0, Point::Starting);
     assert!(rt; !NeverStop.asked());
+}
+
+#[test]
+fn flags_are_seen(rt: HostRuntime) {
+    let flags = Flags::new();
+    let mut hint = flags.hint(5);
+    assert!(rt; !hint.asked());
+    flags.set(4);
+    assert!(rt; !hint.asked());
+    flags.set(5);
+    flags.set(63);
+    assert!(rt; hint.asked() && hint.asked() && flags.hint(63).asked());
+    flags.clear(5);
+    assert!(rt; !hint.asked() && flags.hint(4).asked());
+}
+
+#[test]
+fn bells_wake_who_wait(rt: HostRuntime) {
+    let bell = Bell::new();
+    assert_eq!(rt; bell.seen(&rt), 0);
+    let (closed, _) = join(&rt, || bell.wait_past(&rt, 0), || bell.ring(&rt));
+    assert!(rt; !closed && bell.seen(&rt) == 1);
+    assert!(rt; !bell.wait_past(&rt, 0) && !bell.closed(&rt));
+    let (closed, _) = join(&rt, || bell.wait_past(&rt, 1), || bell.close(&rt));
+    assert!(rt; closed && bell.closed(&rt) && bell.seen(&rt) == 1);
 }

@@ -1,9 +1,11 @@
-//! Names of circuits, and places: a version of a circuit.
+//! Names of circuits, places, which are versions of circuits, and the texts of circuits and blocks.
 #![tactic(auto)]
 
 pub mod name;
+pub mod text;
 
 pub use name::{Name, Place};
+pub use text::Text;
 
 #[cfg(test)]
 mod tests;

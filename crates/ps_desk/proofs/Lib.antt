@@ -1,0 +1,13 @@
+pub mod TotalLemmas
+pub mod ListLemmas
+pub mod ViewLemmas
+pub mod DrawLaws
+pub mod TurnLaws
+pub mod SplitLaws
+pub mod JoinLaws
+pub mod SettleLaws
+pub mod OpenLaws
+pub mod CloseLaws
+pub mod StepLaws
+pub mod RestLaws
+pub mod CountLemmas
