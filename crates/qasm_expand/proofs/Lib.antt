@@ -3,10 +3,13 @@ pub mod Aiming
 pub mod Applied
 pub mod Expansions
 pub mod Expressions
+pub mod FaultPlaces
 pub mod Fitting
+pub mod GatesBehind
 pub mod Keeping
 pub mod Leading
 pub mod Libraries
+pub mod LibraryText
 pub mod Lookups
 pub mod Machine
 pub mod Once

@@ -13,8 +13,9 @@ use Rattle.qasm_expand.specs.declared.fault.ReadFault.{ReadFault}
 use Rattle.qasm_expand.specs.declared.fault.ReadFault.TheVariants.{Fault, Memory}
 use Rattle.qasm_expand.specs.Tables.{Bound, meaning, bound_sound, defs_sound}
 use Rattle.qasm_expand.specs.Checks.{and_then, Known}
-use Rattle.qasm_expand.specs.Library.{library_text, TextIs, Gates, defined, all_defined, with_library, library_read, kept_or, with_all, Includes, first, again}
-use Rattle.qasm_expand.specs.States.{Became, IsSound}
+use Rattle.qasm_expand.specs.Library.{library_text, TextIs, Gates, defined, all_defined, with_library, kept_or, with_all, Includes, first, again}
+use Rattle.qasm_expand.specs.States.{Became, Succeeds, IsSound}
+use Rattle.qasm_expand.proofs.LibraryText.{no_library_fault, no_gate_fault}
 
 became_eq : {A B : Type 0} (r : Result A ReadFault) (new : B) (x y : Result B ReadFault) → x ≡ y → Became r new (λ z. z ≡ x) → Became r new (λ z. z ≡ y)
 became_eq (Ok u) new x y e h = h ∙ e
@@ -125,20 +126,18 @@ more_defs bytes g (statement.Apply c ∷ ss) new e = more_defs bytes g ss new e
 more_defs bytes g (statement.Barrier xs ∷ ss) new e = more_defs bytes g ss new e
 
 -- ---- the library
-pub included_fault : (st new : State) (f : ReadFault) → st.library ≡ None → Known {A = List Statement} (Err f) (TextIs library_text) → Became {A = Unit {0}} (Err f) new (Includes st)
-included_fault st new (Fault name at) e h = first e h
-included_fault st new Memory e h = tt
+pub included_fault : (st new : State) (f : ReadFault) → Known {A = List Statement} (Err f) (TextIs library_text) → Became {A = Unit {0}} (Err f) new (Succeeds (Includes st))
+included_fault st new (Fault name at) h = no_library_fault (Fault name at) h
+included_fault st new Memory h = tt
 
-pub defining_faulty : (st new : State) (g new_gates : Gates) (ss : List Statement) (f : ReadFault) → st.library ≡ None → TextIs library_text (Ok ss) → g ≡ record { defs = st.defs; bound = [] }
-    → Became {A = Unit {0}} (Err f) new_gates (λ z. z ≡ all_defined library_text g ss) → Became {A = Unit {0}} (Err f) new (Includes st)
-defining_faulty st new g new_gates ss (Fault name at) e h d k =
-    subst (Includes st) (ap (λ z. and_then z (λ x. Ok (with_library st x))) (ap (λ z. all_defined library_text z ss) (sym d) ∙ sym k)) (first {r = Ok ss} e h)
-defining_faulty st new g new_gates ss Memory e h d k = tt
+pub defining_faulty : (st new : State) (g new_gates : Gates) (ss : List Statement) (f : ReadFault) → TextIs library_text (Ok ss) → g ≡ record { defs = st.defs; bound = [] }
+    → Became {A = Unit {0}} (Err f) new_gates (λ z. z ≡ all_defined library_text g ss) → Became {A = Unit {0}} (Err f) new (Succeeds (Includes st))
+defining_faulty st new g new_gates ss (Fault name at) h d k = no_gate_fault st.defs ss (Fault name at) h (ap (λ z. all_defined library_text z ss) (sym d) ∙ sym k)
+defining_faulty st new g new_gates ss Memory h d k = tt
 
 pub all_included : (st new : State) (g made : Gates) (ss : List Statement) → st.library ≡ None → TextIs library_text (Ok ss) → g ≡ record { defs = st.defs; bound = [] } → Ok made ≡ all_defined library_text g ss
-    → new ≡ with_library st made → Includes st (Ok new)
-all_included st new g made ss e h d k n =
-    subst (Includes st) (ap (λ z. and_then z (λ x. Ok (with_library st x))) (ap (λ z. all_defined library_text z ss) (sym d) ∙ sym k) ∙ ap Ok (sym n)) (first {r = Ok ss} e h)
+    → new ≡ with_library st made → Includes st new
+all_included st new g made ss e h d k n = subst (Includes st) (sym n) (first e h (ap (λ z. all_defined library_text z ss) (sym d) ∙ sym k))
 
 pub library_sound : (st new : State) (g made : Gates) (ss : List Statement) → IsSound st → g ≡ record { defs = st.defs; bound = [] } → Ok made ≡ all_defined library_text g ss → defs_sound made.defs ≡ true → bound_sound (length made.defs) made.bound ≡ true
     → new ≡ with_library st made → IsSound new
@@ -162,7 +161,7 @@ no_shelf None e = refl
 pub none_of_shelf : (st : State) → is_some st.library ≡ false → st.library ≡ None
 none_of_shelf st e = no_shelf st.library e
 
-pub included_again : (st : State) → is_some st.library ≡ true → Includes st (Ok st)
+pub included_again : (st : State) → is_some st.library ≡ true → Includes st st
 included_again st e = let p = shelf_of st.library e in again p.1
 
 pub none_sound : (n : ℕ) (bs : List Bound) → bs ≡ [] → bound_sound n bs ≡ true

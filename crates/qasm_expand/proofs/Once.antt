@@ -21,7 +21,7 @@ use Rattle.qasm_expand.specs.declared.state.State.{State}
 use Rattle.qasm_expand.specs.declared.target.Aimed.{Aimed}
 use Rattle.qasm_expand.specs.declared.fault.ReadFault.{ReadFault}
 use Rattle.qasm_expand.specs.Tables.{Register, Bound}
-use Rattle.qasm_expand.specs.Library.{library_text, parsed, TextIs, bad_tokens, by_grammar, BlockIs, bad_block_tokens, by_block_grammar, library_read, Includes, first, again}
+use Rattle.qasm_expand.specs.Library.{library_text, parsed, TextIs, bad_tokens, by_grammar, BlockIs, bad_block_tokens, by_block_grammar, Gates, all_defined, with_library, Includes, first, again}
 use Rattle.qasm_expand.specs.Bodies.{Job, Comes}
 use Rattle.qasm_expand.specs.Targets.{aimed, items_or_fault, Applies, missed, applies}
 use Rattle.qasm_expand.specs.Statements.{behind, Takes, include, quantum, classical, gate, apply, barrier, Expands, ended, taken, faulty}
@@ -68,10 +68,18 @@ not_both l s e d = absurd (none_some (sym e ∙ d)) where
   none_some : ◌≡◌ {A = Option Shelf} None (Some s) → ⊥
   none_some e = cc
 
-one_include : (st : State) (a b : Result State ReadFault) → Includes st a → Includes st b → a ≡ b
-one_include st a b (first {r = r} e h) (first {r = s} d k) = ap (library_read st) (one_text_is library_text r s h k)
-one_include st a b (first e h) (again {s = s} d) = absurd (not_both st.library s e d)
-one_include st a b (again {s = s} d) (first e h) = absurd (not_both st.library s e d)
+same_statements : (s t : List Statement) → ◌≡◌ {A = Result (List Statement) ReadFault} (Ok s) (Ok t) → t ≡ s
+same_statements s t e = cc
+
+same_gates : (x y : Gates) → ◌≡◌ {A = Result Gates ReadFault} (Ok x) (Ok y) → x ≡ y
+same_gates x y e = cc
+
+one_include : (st : State) (a b : State) → Includes st a → Includes st b → a ≡ b
+one_include st a b (first {ss = ss} {g = x} e h p) (first {ss = us} {g = y} d k q) =
+    let f : us ≡ ss = same_statements ss us (one_text_is library_text (Ok ss) (Ok us) h k) in
+    ap (with_library st) (same_gates x y (sym p ∙ ap (all_defined library_text (record { defs = st.defs; bound = [] })) (sym f) ∙ q))
+one_include st a b (first e h p) (again {s = s} d) = absurd (not_both st.library s e d)
+one_include st a b (again {s = s} d) (first e h p) = absurd (not_both st.library s e d)
 one_include st a b (again e) (again d) = refl
 
 same_aimed : (x y : Aimed) → ◌≡◌ {A = Result Aimed ReadFault} (Ok x) (Ok y) → x ≡ y
@@ -88,9 +96,6 @@ same_state s t e = cc
 
 not_state : (s : State) (f : ReadFault) → ◌≡◌ {A = Result State ReadFault} (Ok s) (Err f) → ⊥
 not_state s f e = cc
-
-same_statements : (s t : List Statement) → ◌≡◌ {A = Result (List Statement) ReadFault} (Ok s) (Ok t) → t ≡ s
-same_statements s t e = cc
 
 not_statements : (s : List Statement) (f : ReadFault) → ◌≡◌ {A = Result (List Statement) ReadFault} (Ok s) (Err f) → ⊥
 not_statements s f e = cc
@@ -116,7 +121,7 @@ module _ (one_comes : OneComes) where
         ap (items_or_fault c x.targets) (one_comes defs [] _ r s h j) ∙ ap (λ z. items_or_fault c z.targets s) e
 
   one_take : (bytes : List ℕ) (st : State) (s : Statement) (a b : Result State ReadFault) → Takes bytes st s a → Takes bytes st s b → a ≡ b
-  one_take bytes st s a b (include h) (include k) = one_include st a b h k
+  one_take bytes st s a b (include {st' = x} h) (include {st' = y} k) = ap Ok (one_include st x y h k)
   one_take bytes st s a b quantum quantum = refl
   one_take bytes st s a b classical classical = refl
   one_take bytes st s a b gate gate = refl

@@ -15,7 +15,7 @@ use Rattle.qasm_expand.specs.Library.{Includes, defining}
 use Rattle.qasm_expand.specs.declared.target.Target.{Target}
 use Rattle.qasm_expand.specs.Checks.{Known}
 use Rattle.qasm_expand.specs.Names.{checked}
-use Rattle.qasm_expand.specs.States.{IsSound, Became, in_block}
+use Rattle.qasm_expand.specs.States.{IsSound, Became, Succeeds, in_block}
 use Rattle.qasm_expand.specs.Targets.{Applies, targets_of}
 use Rattle.qasm_expand.specs.Statements.{declared_as, behind, past, Takes, include, quantum, classical, gate, apply, barrier, Expands, ended, taken, faulty}
 
@@ -28,8 +28,12 @@ module _ {A : Type 0} (bytes : List ℕ) (st new : State) (s : Statement) (r : R
   as_taken : (P : Result State ReadFault → Type 0) (t : Statement) → s ≡ t → ((x : Result State ReadFault) → P x → Takes bytes st t x) → Became r new P → Became r new (Takes bytes st s)
   as_taken P t e f h = subst (λ z. Became r new (Takes bytes st z)) (sym e) (became r new P (Takes bytes st t) f h)
 
-  pub take_include : (p : Span) → s ≡ statement.Include p → Became r new (Includes st) → Became r new (Takes bytes st s)
-  take_include p e h = as_taken (Includes st) (statement.Include p) e (λ x i. include i) h
+  included : (p : Span) (x : Result State ReadFault) → Succeeds (Includes st) x → Takes bytes st (statement.Include p) x
+  included p (Ok st') i = include i
+  included p (Err f) i = absurd i
+
+  pub take_include : (p : Span) → s ≡ statement.Include p → Became r new (Succeeds (Includes st)) → Became r new (Takes bytes st s)
+  take_include p e h = as_taken (Succeeds (Includes st)) (statement.Include p) e (included p) h
 
   pub take_quantum : (name size : Span) → s ≡ statement.Qreg name size → Became r new (λ x. x ≡ declared_as true bytes st name size) → Became r new (Takes bytes st s)
   take_quantum name size e h = as_taken (λ x. x ≡ declared_as true bytes st name size) (statement.Qreg name size) e (λ x i. subst (Takes bytes st (statement.Qreg name size)) (sym i) quantum) h

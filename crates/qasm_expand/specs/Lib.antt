@@ -14,3 +14,4 @@ pub mod Statements
 pub mod Blocks
 pub mod Circuits
 pub mod Reading
+pub mod Places

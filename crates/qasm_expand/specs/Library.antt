@@ -122,15 +122,16 @@ with_all bound (b ∷ bs) = with_all (kept_or (meaning bound b.name) bound b) bs
 abbrev pub with_library : State → Gates → State
 with_library st g = record { registers = st.registers; defs = g.defs; bound = with_all st.bound g.bound; library = Some (record { from = length st.defs; to = length g.defs }); items = st.items }
 
--- the first include: the library's gates stand behind those that are there, their bodies mean each other, and each of
--- their names means its gate, but where the text has defined the name itself
-abbrev pub library_read : State → Result (List Statement) ReadFault → Result State ReadFault
-library_read st r = and_then r (λ ss. and_then (all_defined library_text (record { defs = st.defs; bound = [] }) ss) (λ g. Ok (with_library st g)))
+-- a text is read, and behind any gates all its definitions come to gates: it has no fault
+abbrev pub IsFaultless : List ℕ → Type 0
+IsFaultless text = (ss : List Statement) × TextIs text (Ok ss) × ((front : List Def) → (g : Gates) × (all_defined text (record { defs = front; bound = [] }) ss ≡ Ok g))
 
--- what including the library makes of what is known; a second time it changes nothing
-pub data Includes (st : State) : Result State ReadFault → Type 0 where
-  first : {r : Result (List Statement) ReadFault} → st.library ≡ None → TextIs library_text r → Includes st (library_read st r)
-  again : {s : Shelf} → st.library ≡ Some s → Includes st (Ok st)
+-- What including the library makes of what is known; it has no fault. At the first include the library's gates stand behind those
+-- that are there, their bodies mean each other, and each of their names means its gate, but where the text has defined the name
+-- itself. A second time nothing changes.
+pub data Includes (st : State) : State → Type 0 where
+  first : {ss : List Statement} {g : Gates} → st.library ≡ None → TextIs library_text (Ok ss) → all_defined library_text (record { defs = st.defs; bound = [] }) ss ≡ Ok g → Includes st (with_library st g)
+  again : {s : Shelf} → st.library ≡ Some s → Includes st st
 
 -- a definition in the text
 abbrev pub with_gates : State → Gates → State

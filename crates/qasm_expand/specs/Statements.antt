@@ -47,7 +47,7 @@ past st (Err f) = Err f
 
 -- what a statement makes of what is known before it, or its first fault
 pub data Takes (bytes : List ℕ) (st : State) : Statement → Result State ReadFault → Type 0 where
-  include : {p : Span} {r : Result State ReadFault} → Includes st r → Takes bytes st (Include p) r
+  include : {p : Span} {st' : State} → Includes st st' → Takes bytes st (Include p) (Ok st')
   quantum : {name size : Span} → Takes bytes st (Qreg name size) (declared_as true bytes st name size)
   classical : {name size : Span} → Takes bytes st (Creg name size) (declared_as false bytes st name size)
   gate : {name : Span} {params args : List Span} {body : List Stated} → Takes bytes st (Gate name params args body) (defining bytes st name params args body)

@@ -32,6 +32,11 @@ Became (Ok u) new P = P (Ok new)
 Became (Err (Fault name at)) new P = P (Err (Fault name at))
 Became (Err Memory) new P = Unit {0}
 
+-- a value of which this holds, and no fault
+abbrev pub Succeeds : {B : Type 0} → (B → Type 0) → Result B ReadFault → Type 0
+Succeeds P (Ok b) = P b
+Succeeds P (Err f) = ⊥
+
 pub ItemsWithin-prop : (n : ℕ) (is : List (List Prim)) → IsProp (ItemsWithin n is)
 ItemsWithin-prop n [] = Unit-prop
 ItemsWithin-prop n (i ∷ is) = ×_prop (AllWithin-prop n i) (ItemsWithin-prop n is)

@@ -1,6 +1,6 @@
 //! Items of blocks behind a text.
 
-ghost use Rattle.std.specs.Prelude.{◌≡◌, ◌≤◌, length, List, Result, All, OnOk, IfOk};
+ghost use Rattle.std.specs.Prelude.{◌≡◌, ◌≤◌, length, List, Result, All, OnOk, IfOk, IfErr};
 ghost use Rattle.ps_prim.specs.declared.prims.Primitive.{Primitive as Prim};
 ghost use Rattle.qasm_parse.specs.Places.{StatementIn};
 ghost use Rattle.qasm_expand.specs.declared.fault.ReadFault.{ReadFault};
@@ -9,6 +9,7 @@ ghost use Rattle.qasm_expand.specs.States.{IsSound, Became, ItemsWithin};
 ghost use Rattle.qasm_expand.specs.Statements.{Takes, Expands};
 ghost use Rattle.qasm_expand.specs.Circuits.{ReadsBlock};
 ghost use Rattle.qasm_expand.specs.Reading.{table_in, ItemsTold};
+ghost use Rattle.qasm_expand.specs.Places.{IsInside};
 ghost use Rattle.qasm_expand.specs.Blocks.{IsPlain, known_with};
 ghost use Rattle.qasm_expand.specs.Ready.{AreExpansions};
 
@@ -98,6 +99,8 @@ pub fn items(alloc: Global, table: &Table, block: &[u8]) -> Result<Items, ReadFa
     ensures few { IfOk result (λ is. length is ≤ 65536) }
     // Each is on qubits of the table's registers.
     ensures within { IfOk result (λ is. ItemsWithin (qubit_count table.now.registers) is) }
+    // A fault is within the block, and is not NoQubits.
+    ensures inside { IfErr result (IsInside block.now) }
 {
     let program = match block_program(alloc, block) {
         Ok(program) => program,

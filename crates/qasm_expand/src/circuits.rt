@@ -1,10 +1,11 @@
 //! Circuits of whole texts.
 
-ghost use Rattle.std.specs.Prelude.{◌≡◌, ◌≤◌, length, Result, Ok};
+ghost use Rattle.std.specs.Prelude.{◌≡◌, ◌≤◌, length, Result, Ok, IfErr};
 ghost use Rattle.qasm_expand.specs.declared.fault.ReadFault.{ReadFault};
 ghost use Rattle.qasm_expand.specs.States.{IsSound};
 ghost use Rattle.qasm_expand.specs.Circuits.{CircuitOf, nothing_yet, closed, ReadsText};
 ghost use Rattle.qasm_expand.specs.Reading.{CircuitTold};
+ghost use Rattle.qasm_expand.specs.Places.{IsPlaced};
 
 use crate::bounds::Bounds;
 use crate::defs::Defs;
@@ -67,6 +68,8 @@ pub fn circuit(alloc: Global, text: &[u8]) -> Result<Circuit, ReadFault>
     ensures reads { CircuitTold result (ReadsText text.now) }
     // No other circuit and no other fault is that of the text.
     ensures only { CircuitTold result (λ a. (b : Result CircuitOf ReadFault) → ReadsText text.now b → b ≡ a) }
+    // A fault is within the text, and NoQubits at its end.
+    ensures placed { IfErr result (IsPlaced text.now) }
 {
     let program = match text_program(alloc, text) {
         Ok(program) => program,

@@ -4,7 +4,7 @@ ghost use Rattle.std.specs.Prelude.{◌≡◌, true, length, [], ◌∷◌, OnOk
 ghost use Rattle.qasm_parse.specs.Places.{SpanIn, InnerIn, StatementIn};
 ghost use Rattle.qasm_expand.specs.Tables.{defs_sound, bound_sound};
 ghost use Rattle.qasm_expand.specs.Library.{Gates, is_own as means_own_gate, all_defined, Includes, defining};
-ghost use Rattle.qasm_expand.specs.States.{IsSound, Became};
+ghost use Rattle.qasm_expand.specs.States.{IsSound, Became, Succeeds};
 
 use crate::bounds::Bounds;
 use crate::defs::Defs;
@@ -123,10 +123,11 @@ fn define_all(
 }
 
 /// Includes the library: its gates stand behind those that are there, and each of its names means its gate,
-/// unless it means one already. A second time nothing changes.
+/// unless it means one already. A second time nothing changes. The library has no fault of its own: the only error is
+/// `Memory`.
 pub fn include(alloc: Global, state: &mut State) -> Result<(), ReadFault>
     requires sound { IsSound state.old }
-    ensures included { Became result state.new (Includes state.old) }
+    ensures included { Became result state.new (Succeeds (Includes state.old)) }
     ensures sound { OnOk result (IsSound state.new) }
 {
     if state.library.is_some() {

@@ -1,7 +1,7 @@
 //! The library, its including, and definitions.
 
 ghost use Rattle.std.specs.Prelude.{◌≡◌, ◌≤◌, length};
-ghost use Rattle.qasm_expand.specs.Library.{library_text};
+ghost use Rattle.qasm_expand.specs.Library.{library_text, IsFaultless};
 
 const LIBRARY: &[u8] = b"OPENQASM 2.0;
 gate u3(theta,phi,lambda) q { U(theta,phi,lambda) q; }
@@ -41,9 +41,10 @@ gate rzz(theta) a,b { cx a,b; u1(theta) b; cx a,b; }
 gate sx a { sdg a; h a; sdg a; }
 ";
 
-/// The text of the library.
+/// The text of the library, which is read without a fault, and whose gates are defined without one behind any others.
 pub fn text() -> &'static [u8]
     ensures same { result.now ≡ library_text }
+    ensures faultless { IsFaultless library_text }
     ensures small { length result.now ≤ 16777216 }
 {
     LIBRARY

@@ -11,3 +11,5 @@ pub mod Single
 pub mod Whole
 pub mod Within
 pub mod Ranks
+pub mod SameSort
+pub mod Readers

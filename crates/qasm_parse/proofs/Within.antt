@@ -33,35 +33,35 @@ use Rattle.qasm_parse.proofs.Cut.{all_within}
 use Rattle.qasm_parse.proofs.Ranks.{formula_below}
 
 -- a fact on what was got, where something was
-abbrev On : {A : Type 0} → (A → Type 0) → Got A → Type 0
+abbrev pub On : {A : Type 0} → (A → Type 0) → Got A → Type 0
 On Q (got a j) = Q a
 On Q (miss f) = Unit {0}
 
 -- each thing that is got has the fact
-abbrev Has : {A : Type 0} → (A → Type 0) → (ℕ → Got A → Type 0) → Type 0
+abbrev pub Has : {A : Type 0} → (A → Type 0) → (ℕ → Got A → Type 0) → Type 0
 Has {A} Q thing = (i : ℕ) (g : Got A) → thing i g → On Q g
 
-gives_has : {A : Type 0} (Q : A → Type 0) (a : A) → Q a → Has Q (Gives a)
+pub gives_has : {A : Type 0} (Q : A → Type 0) (a : A) → Q a → Has Q (Gives a)
 gives_has Q a q i g e = subst (On Q) (sym e) q
 
-after_has : {B : Type 0} (ts : List Sort) (s : Sort) (Q : B → Type 0) (rest : ℕ → Got B → Type 0) → Has Q rest → Has Q (After ts s rest)
+pub after_has : {B : Type 0} (ts : List Sort) (s : Sort) (Q : B → Type 0) (rest : ℕ → Got B → Type 0) → Has Q rest → Has Q (After ts s rest)
 after_has ts s Q rest h i g (after e k) = h (i + 1) g k
 after_has ts s Q rest h i g (elsewhere n) = tt
 
-then_has : {A B : Type 0} (P : A → Type 0) (Q : B → Type 0) (thing : ℕ → Got A → Type 0) (rest : A → ℕ → Got B → Type 0) → Has P thing → ((a : A) → P a → Has Q (rest a)) → Has Q (Then thing rest)
+pub then_has : {A B : Type 0} (P : A → Type 0) (Q : B → Type 0) (thing : ℕ → Got A → Type 0) (rest : A → ℕ → Got B → Type 0) → Has P thing → ((a : A) → P a → Has Q (rest a)) → Has Q (Then thing rest)
 then_has P Q thing rest h k i g (then {a = a} {j = j} x y) = k a (h i (got a j) x) j g y
 then_has P Q thing rest h k i g (missed x) = tt
 
-put_has : {A : Type 0} (Q : A → Type 0) (a : A) (g : Got (List A)) → Q a → On (All Q) g → On (All Q) (put (a ∷ []) g)
+pub put_has : {A : Type 0} (Q : A → Type 0) (a : A) (g : Got (List A)) → Q a → On (All Q) g → On (All Q) (put (a ∷ []) g)
 put_has Q a (got xs j) q h = All-cons Q a xs q h
 put_has Q a (miss f) q h = tt
 
-listed_has : {A : Type 0} (ts : List Sort) (Q : A → Type 0) (thing : ℕ → Got A → Type 0) → Has Q thing → Has (All Q) (Listed ts thing)
+pub listed_has : {A : Type 0} (ts : List Sort) (Q : A → Type 0) (thing : ℕ → Got A → Type 0) → Has Q thing → Has (All Q) (Listed ts thing)
 listed_has ts Q thing h i g (final {j = j} {a = a} x n) = All-cons Q a [] (h i (got a j) x) (All-nil Q)
 listed_has ts Q thing h i g (next {j = j} {a = a} {r = r} x c k) = put_has Q a r (h i (got a j) x) (listed_has ts Q thing h (j + 1) r k)
 listed_has ts Q thing h i g (missing x) = tt
 
-enclosed_has : {A : Type 0} (ts : List Sort) (Q : A → Type 0) (thing : ℕ → Got A → Type 0) → Has Q thing → Has (All Q) (Enclosed ts thing)
+pub enclosed_has : {A : Type 0} (ts : List Sort) (Q : A → Type 0) (thing : ℕ → Got A → Type 0) → Has Q thing → Has (All Q) (Enclosed ts thing)
 enclosed_has ts Q thing h i g (absent n) = All-nil Q
 enclosed_has ts Q thing h i g (empty e f) = All-nil Q
 enclosed_has ts Q thing h i g (full e n k) =

@@ -6,6 +6,7 @@ use Rattle.qasm_expand.specs.Reading.{table_in}
 use Rattle.qasm_expand.specs.Blocks.{known_with}
 use Rattle.qasm_expand.proofs.OneText.{one_block}
 use Rattle.qasm_expand.proofs.Texts.{block_misread, block_faulty, block_ended, items_only}
+use Rattle.qasm_expand.proofs.FaultPlaces.{items_inside}
 use Rattle.qasm_expand.proofs.blocks.items.Goals as goal
 
 pub returns-in-Err-clause-reads : goal.returns-in-Err-clause-reads
@@ -43,3 +44,9 @@ returns-clause-only c =
     items_only (Err c.in-Err-expand.fault) (ReadsBlock t c.args.block.now) (one_block t c.args.block.now)
     (block_faulty t c.args.block.now c.statements.result.now (known_with c.args.table.now c.new-items.result) (known_with c.args.table.now c.expand.new.items) c.in-Err-expand.fault h
     (ap (λ is. known_with c.args.table.now is) c.new-items.ensures) c.in-Err-expand.ensures.expanded)
+
+pub returns-in-Err-clause-inside : goal.returns-in-Err-clause-inside
+returns-in-Err-clause-inside c = items_inside c.args.block.now (table_in c.args.table.now) (Err c.in-Err.fault) (returns-in-Err-clause-reads c)
+
+pub returns-clause-inside : goal.returns-clause-inside
+returns-clause-inside c = items_inside c.args.block.now (table_in c.args.table.now) (Err c.in-Err-expand.fault) (returns-clause-reads c)

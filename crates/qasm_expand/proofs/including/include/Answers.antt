@@ -13,7 +13,7 @@ pub text_program-requires : goal.text_program-requires
 text_program-requires c = c.text-bytes.ensures.small
 
 pub returns-in-Err-clause-included : goal.returns-in-Err-clause-included
-returns-in-Err-clause-included c = included_fault c.args.state.now _ c.in-Err.fault (none_of_shelf c.args.state.now (sym c.is_some.ensures ∙ c.if-is_some.false)) (subst (λ z. Known {A = List Statement} (Rattle.std.proofs.Common.Err c.in-Err.fault) (TextIs z)) c.text-bytes.ensures.same c.in-Err.ensures.reads)
+returns-in-Err-clause-included c = included_fault c.args.state.now _ c.in-Err.fault (subst (λ z. Known {A = List Statement} (Rattle.std.proofs.Common.Err c.in-Err.fault) (TextIs z)) c.text-bytes.ensures.same c.in-Err.ensures.reads)
 
 pub define_all-requires-clause-names : goal.define_all-requires-clause-names
 define_all-requires-clause-names c = none_sound (length c.args.state.now.defs) c.new-names.result c.new-names.ensures
@@ -22,7 +22,7 @@ pub returns-in-Err-define_all-clause-included : goal.returns-in-Err-define_all-c
 returns-in-Err-define_all-clause-included c =
     let st = c.args.state.now in
     let h : TextIs library_text (Ok c.statements.result.now) = text_of c.text-bytes.result.now c.in-Ok.program c.statements.result.now c.text-bytes.ensures.same c.statements.ensures c.in-Ok.ensures.reads in
-    defining_faulty st _ (record { defs = st.defs; bound = c.new-names.result }) (record { defs = c.define_all.new.defs; bound = c.define_all.new.bound }) c.statements.result.now c.in-Err-define_all.fault (none_of_shelf st (sym c.is_some.ensures ∙ c.if-is_some.false)) h
+    defining_faulty st _ (record { defs = st.defs; bound = c.new-names.result }) (record { defs = c.define_all.new.defs; bound = c.define_all.new.bound }) c.statements.result.now c.in-Err-define_all.fault h
     (ap (λ (z : List Bound). record { defs = st.defs; bound = z }) c.new-names.ensures) (fault_by c.text-bytes.result.now _ _ _ c.in-Err-define_all.fault c.text-bytes.ensures.same c.in-Err-define_all.ensures.defined)
 
 pub returns-clause-included : goal.returns-clause-included
