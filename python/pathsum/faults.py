@@ -4,7 +4,7 @@ from __future__ import annotations
 import difflib
 from typing import Callable, Dict, List, Optional, Sequence
 
-from .angles import nearest_multiple, simple_multiple
+from .angles import nearest_multiple, simple_multiple, value_of
 from .circuits import Circuit, has_mark
 from .errors import Fault
 from .library import BODIES, LIBRARY
@@ -65,6 +65,7 @@ class _Spot:
         self.line, self.column = line, column
         self.at_end = self.offset >= len(circuit.data)
         if self.at_end:
+            self.offset = len(circuit.data)
             # where the last token ends says more than where the file does
             end = self.text.tokens[-1].end if self.text.tokens else 0
             self.line = circuit.data.count(b"\n", 0, end) + 1
@@ -129,8 +130,8 @@ def _opaque(spot: _Spot) -> Optional[str]:
 
 
 def _not_dyadic(spot: _Spot) -> Optional[str]:
-    expression = expression_at(spot.text, spot.offset)
-    if not expression or "(" not in spot.before:
+    expression = _angle_at(spot)
+    if not expression:
         return "One of the gate's angles comes to such a value. " + DYADIC
     simple = simple_multiple(expression)
     if simple:
@@ -139,6 +140,24 @@ def _not_dyadic(spot: _Spot) -> Optional[str]:
     if nearest is None or nearest == "0":
         return DYADIC
     return DYADIC + f" The nearest that can be written is {nearest}, which makes another, if close, circuit."
+
+
+def _angle_at(spot: _Spot) -> List[Token]:
+    """The angle at a place; at a gate's name, the first of its angles that has no pi and is not 0."""
+    if "(" in spot.before:
+        return expression_at(spot.text, spot.offset)
+    at = spot.text.tokens.index(spot.token) if spot.token else len(spot.text.tokens)
+    if [token.text for token in spot.text.tokens[at + 1 : at + 2]] != ["("]:
+        return []
+    at += 2
+    while at < len(spot.text.tokens):
+        expression = expression_at(spot.text, spot.text.tokens[at].start)
+        if value_of(expression) and all(token.text != "pi" for token in expression):
+            return expression
+        at += len(expression) + 1
+        if at > len(spot.text.tokens) or spot.text.tokens[at - 1].text != ",":
+            break
+    return []
 
 
 def _angle_range(spot: _Spot) -> Optional[str]:
