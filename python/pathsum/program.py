@@ -112,6 +112,7 @@ def ask(
 
 
 def _wait(child, given, start, timeout, cancel):  # type: ignore[no-untyped-def]
+    input = given
     while True:
         if cancel is not None and cancel.is_set():
             raise Cancelled("the question was cancelled")
@@ -120,7 +121,9 @@ def _wait(child, given, start, timeout, cancel):  # type: ignore[no-untyped-def]
             raise TimeLimitError(f"no answer within {timeout:g} seconds; the program was ended")
         pause = left if cancel is None else min(0.05, 0.05 if left is None else left)
         with contextlib.suppress(subprocess.TimeoutExpired):
-            return child.communicate(given, timeout=pause)
+            return child.communicate(input, timeout=pause)
+        # (it goes on with what it was handed first)
+        input = None
 
 
 def _end(child: "subprocess.Popen[bytes]", gently: bool) -> None:
