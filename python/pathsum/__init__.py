@@ -1,0 +1,80 @@
+"""Whether two quantum circuits are one linear map, decided exactly and with a proof behind each answer.
+
+    import pathsum
+
+    answer = pathsum.same("before.qasm", "after.qasm")
+    if answer:                          # yes; a no is False, and unknown raises UndecidedError
+        ...
+    print(answer.verdict, answer.explain())
+
+    pathsum.assert_same(before, after)  # in a test suite: fails with what differs, where
+"""
+from __future__ import annotations
+
+from .answers import (
+    Accepted,
+    Answer,
+    Input,
+    Left,
+    Limit,
+    No,
+    Qubit,
+    Rejected,
+    RemainingSum,
+    Shared,
+    Unknown,
+    Yes,
+)
+from .circuits import Circuit
+from .errors import (
+    Cancelled,
+    CircuitError,
+    Fault,
+    PathsumError,
+    ProgramError,
+    TimeLimitError,
+    TooLongError,
+    UndecidedError,
+    UnreadableError,
+    UsageError,
+)
+from .program import Program, find_program
+from .questions import NotKnownError, Outcome, assert_same, compare, prove, replay, same, same_many
+
+__version__ = "0.1.0"
+
+__all__ = [
+    "Accepted",
+    "Answer",
+    "Cancelled",
+    "Circuit",
+    "CircuitError",
+    "Fault",
+    "Input",
+    "Left",
+    "Limit",
+    "No",
+    "NotKnownError",
+    "Outcome",
+    "PathsumError",
+    "Program",
+    "ProgramError",
+    "Qubit",
+    "Rejected",
+    "RemainingSum",
+    "Shared",
+    "TimeLimitError",
+    "TooLongError",
+    "UndecidedError",
+    "Unknown",
+    "UnreadableError",
+    "UsageError",
+    "Yes",
+    "assert_same",
+    "compare",
+    "find_program",
+    "prove",
+    "replay",
+    "same",
+    "same_many",
+]

@@ -1,0 +1,251 @@
+"""The command line: tools/pathsum, and `python -m pathsum`."""
+from __future__ import annotations
+
+import argparse
+import contextlib
+import json
+import os
+import sys
+from typing import Any, Dict, List, NoReturn, Optional, Sequence, TextIO
+
+from . import batch, questions
+from .answers import Answer, Yes
+from .circuits import Circuit, decoded, read_file
+from .errors import Cancelled, CircuitError, PathsumError, UnreadableError, UsageError
+from .program import find_program, version_line
+from .records import SCHEMA, error_record, record_of
+
+EPILOG = """exit status:
+  0  yes: one linear map (replay: accepted; batch: all are)
+  1  no: they differ (replay: rejected; batch: some do)
+  2  unknown: neither was shown (replay: left; batch: some are, and none is a no)
+ 64  the words of the command are wrong       65  a circuit is refused (batch: some pair has no verdict)
+ 66  a file can't be read                     67  the output can't be written
+ 68  the circuits are too long                70  no program, or it gave no answer
+ 75  the time limit was reached              130  interrupted
+"""
+COLOURS = {"yes": "32", "accepted": "32", "no": "31", "rejected": "31", "refused": "31", "error": "31"}
+
+
+class _Parser(argparse.ArgumentParser):
+    """Wrong words are one sentence and status 64."""
+
+    def error(self, message: str) -> NoReturn:
+        raise UsageError(f"{message} ({self.prog} --help says more)")
+
+
+def _parser() -> argparse.ArgumentParser:
+    raw = argparse.RawDescriptionHelpFormatter
+    parser = _Parser(
+        prog="pathsum",
+        description="Whether two OpenQASM 2.0 circuits are one linear map.",
+        epilog=EPILOG,
+        formatter_class=raw,
+    )
+    parser.add_argument("--version", action="store_true", help="the version, and which program answers")
+    commands = parser.add_subparsers(dest="command", metavar="COMMAND")
+
+    def command(name: str, said: str, *files: str) -> argparse.ArgumentParser:
+        made = commands.add_parser(name, help=said, description=said, epilog=EPILOG, formatter_class=raw)
+        for file in files:
+            made.add_argument(file.lower(), metavar=file)
+        made.add_argument("--json", action="store_true", help="one JSON document; docs/JSON.md has its fields")
+        made.add_argument("--timeout", type=_seconds, metavar="SECONDS", help="end a question after so long")
+        return made
+
+    circuits = ("A", "B")
+    compare = command("compare", "compares two circuits; - is standard input", *circuits)
+    compare.add_argument("--phase", action="store_true", help="up to a global phase")
+    prove = command("prove", "as compare; a yes prints the derivation that shows it", *circuits)
+    replay = command("replay", "checks a derivation of two circuits", *circuits, "DERIVATION")
+    for each in (compare, prove, replay):
+        each.add_argument("--full", action="store_true", help="print a sum that is left whole, however long")
+    many = command("batch", "compares many pairs: of a manifest, or of two directories")
+    many.add_argument("given", nargs="+", metavar="MANIFEST | DIRECTORY DIRECTORY")
+    many.add_argument("--phase", action="store_true", help="up to a global phase")
+    many.add_argument("--workers", type=_count, metavar="N", help="so many pairs side by side; else one a processor")
+    return parser
+
+
+def _seconds(word: str) -> float:
+    value = float(word)
+    if not 0 < value < 1e9:
+        raise ValueError
+    return value
+
+
+def _count(word: str) -> int:
+    value = int(word)
+    if value < 1:
+        raise ValueError
+    return value
+
+
+_seconds.__name__ = "time"  # (argparse names them in its messages)
+_count.__name__ = "number"
+
+
+def _circuit(path: str) -> Circuit:
+    if path == "-":
+        return Circuit("standard input", decoded(sys.stdin.buffer.read()))
+    return Circuit(path, decoded(read_file(path)))
+
+
+def _circuits(given: argparse.Namespace, *others: str) -> List[Circuit]:
+    if [given.a, given.b, *others].count("-") > 1:
+        raise UsageError("standard input (-) can stand for one file alone")
+    return [_circuit(given.a), _circuit(given.b)]
+
+
+def _asked(given: argparse.Namespace) -> Answer:
+    how = {"timeout": given.timeout}
+    if given.command == "compare" and given.phase:
+        return questions.same(*_circuits(given), phase=True, **how)
+    if given.command == "compare":
+        return questions.compare(*_circuits(given), **how)
+    if given.command == "prove":
+        circuits = _circuits(given)
+        answer = questions.prove(*circuits, **how)
+        return questions.with_phase(answer, *circuits, **how)
+    circuits = _circuits(given, given.derivation)
+    if given.derivation == "-":
+        return questions.replay(*circuits, sys.stdin.buffer.read(), **how)
+    return questions.replay(*circuits, read_file(given.derivation, "a derivation"), **how)
+
+
+def _is_coloured(stream: TextIO) -> bool:
+    return stream.isatty() and "NO_COLOR" not in os.environ and os.environ.get("TERM") != "dumb"
+
+
+def _coloured(verdict: str, text: str, stream: TextIO) -> str:
+    """The text, with its first word in the verdict's colour on a terminal."""
+    if not _is_coloured(stream):
+        return text
+    word, space, rest = text.partition(" ") if " " in text.split("\n", 1)[0] else text.partition("\n")
+    return f"\x1b[1;{COLOURS.get(verdict, '33')}m{word}\x1b[0m{space}{rest}"
+
+
+def _put(text: str) -> None:
+    sys.stdout.write(text)
+    if not text.endswith("\n"):
+        sys.stdout.write("\n")
+
+
+def _put_record(record: Dict[str, Any]) -> None:
+    _put(json.dumps(record, indent=2, ensure_ascii=True))
+
+
+def _single(given: argparse.Namespace) -> int:
+    answer = _asked(given)
+    if given.json:
+        _put_record(record_of(answer))
+    elif isinstance(answer, Yes) and answer.derivation is not None:
+        _put(answer.derivation)
+    else:
+        _put(_coloured(answer.verdict, answer.explain(given.full), sys.stdout))
+    return answer.status
+
+
+def _many(given: argparse.Namespace) -> int:
+    if len(given.given) > 2:
+        raise UsageError("a batch takes a manifest, or two directories")
+    pairs = batch.pairs_of(given.given)
+    outcomes = []
+    shows = sys.stderr.isatty()
+    found = questions.same_many(pairs, phase=given.phase, timeout=given.timeout, workers=given.workers)
+    with contextlib.closing(found):
+        for number, outcome in enumerate(found, 1):
+            outcomes.append(outcome)
+            if shows:
+                sys.stderr.write(f"\r{number} of {len(pairs)}\x1b[K" + ("\r\x1b[K" if number == len(pairs) else ""))
+                sys.stderr.flush()
+            if not given.json:
+                _put(_line(outcome))
+    status = _batch_status(outcomes)
+    verdicts = [outcome.verdict for outcome in outcomes]
+    counts = {verdict: verdicts.count(verdict) for verdict in ("yes", "no", "unknown", "refused", "error")}
+    if given.json:
+        records = [_outcome_record(outcome) for outcome in outcomes]
+        _put_record({"schema": SCHEMA, "pairs": records, "counts": counts, "status": status})
+    else:
+        told = ", ".join(f"{count} {verdict}" for verdict, count in counts.items() if count)
+        _put(f"{len(pairs)} pairs: {told}")
+    return status
+
+
+def _line(outcome: questions.Outcome) -> str:
+    """A pair's line: verdict, files, and what there is to say in short."""
+    files = f"{outcome.first} {outcome.second}"
+    if outcome.answer is not None:
+        line = outcome.answer.line
+        said = "" if line == "yes" else line.partition(" ")[2]
+        said = said if len(said) <= 100 else said[:97] + "..."
+    else:
+        said = str(outcome.error).split("\n", 1)[0]
+    return _coloured(outcome.verdict, f"{outcome.verdict:8}{files}{'  ' + said if said else ''}", sys.stdout)
+
+
+def _outcome_record(outcome: questions.Outcome) -> Dict[str, Any]:
+    if outcome.answer is not None:
+        return record_of(outcome.answer)
+    assert outcome.error is not None
+    return {**error_record(outcome.error), "first": outcome.first, "second": outcome.second}
+
+
+def _batch_status(outcomes: Sequence[questions.Outcome]) -> int:
+    statuses = {outcome.status for outcome in outcomes}
+    if any(status > 2 for status in statuses):
+        return 65
+    return 1 if 1 in statuses else 2 if 2 in statuses else 0
+
+
+def _failed(error: PathsumError, as_json: bool) -> int:
+    if as_json:
+        _put_record(error_record(error))
+    else:
+        sys.stdout.flush()
+        prefix = "" if isinstance(error, CircuitError) else "pathsum: "
+        sys.stderr.write(f"{prefix}{error}\n")
+    return error.status
+
+
+def _run(words: Sequence[str]) -> int:
+    as_json = "--json" in words
+    try:
+        given = _parser().parse_args(words)
+        if given.version:
+            _put(version_line())
+            return 0
+        if given.command is None:
+            raise UsageError("a command is wanted: compare, prove, replay or batch (pathsum --help says more)")
+        return _many(given) if given.command == "batch" else _single(given)
+    except PathsumError as error:
+        return _failed(error, as_json)
+
+
+def main(words: Optional[Sequence[str]] = None) -> int:
+    """Does what the words say, and gives the exit status."""
+    for stream in (sys.stdout, sys.stderr):
+        if hasattr(stream, "reconfigure"):
+            stream.reconfigure(errors="backslashreplace")
+    try:
+        status = _run(sys.argv[1:] if words is None else words)
+        sys.stdout.flush()
+        return status
+    except BrokenPipeError:
+        # whoever read the output has enough of it
+        os.dup2(os.open(os.devnull, os.O_WRONLY), 1)
+        return 67
+    except OSError as error:
+        sys.stderr.write(f"pathsum: the output can't be written: {error.strerror}\n")
+        with contextlib.suppress(OSError):
+            os.dup2(os.open(os.devnull, os.O_WRONLY), 1)
+        return 67
+    except KeyboardInterrupt:
+        sys.stderr.write("\npathsum: interrupted\n")
+        return 130
+
+
+def entry() -> NoReturn:
+    """Where an installed command begins."""
+    sys.exit(main())

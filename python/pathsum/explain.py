@@ -1,0 +1,175 @@
+"""Answers in words."""
+from __future__ import annotations
+
+from fractions import Fraction
+from typing import List, Tuple
+
+from .answers import Accepted, Answer, Input, Left, Limit, No, Rejected, RemainingSum, Shared, Unknown, Yes
+from .faults import REASONS
+
+SHORT = 160
+"""A sum with a longer text is told by its size alone."""
+MANY = 12
+"""So many qubits are told one by one; of more, those that are 1."""
+
+
+def in_words(answer: Answer, full: bool = False) -> str:
+    """The verdict on a line of its own, and behind it what it means and what can be done."""
+    lines = _lines(answer, full)
+    shared = getattr(answer, "shared", None)
+    if shared is not None:
+        lines.append(_of_shared(answer, shared))
+    if answer.proved is False:
+        lines.append("(By an unproved build: this is what the code does, and nothing shows that it is right.)")
+    return "\n".join(lines)
+
+
+def _lines(answer: Answer, full: bool) -> List[str]:
+    if isinstance(answer, Yes):
+        return _of_yes(answer)
+    if isinstance(answer, No):
+        return _of_no(answer)
+    if isinstance(answer, Unknown):
+        return _of_unknown(answer, full)
+    if isinstance(answer, Accepted):
+        return ["accepted", "Each line of the derivation holds and it ends in 1: the two circuits are one linear map."]
+    if isinstance(answer, Rejected):
+        shown = f"\n    {answer.source}" if answer.source else ""
+        return [f"rejected {answer.number} {answer.reason}", f"Line {answer.number}: {REASONS[answer.reason]}.{shown}"]
+    assert isinstance(answer, Left)
+    return [
+        "left " + _told(answer.remaining, full),
+        "Each line of the derivation holds, but its last sum is not 1, so it shows nothing about the circuits.",
+        *_of_sum(answer.remaining),
+    ]
+
+
+def _of_yes(answer: Yes) -> List[str]:
+    if answer.phase is None:
+        return ["yes", "The two circuits are one linear map, exactly, global phase included."]
+    if answer.phase == 0:
+        return ["yes phase 0", "The two circuits are one linear map, exactly; they differ by no phase."]
+    return [
+        f"yes phase {answer.phase}",
+        "The two circuits are one linear map up to a global phase: the second is the first with "
+        f"{turned(answer.phase)} more.",
+    ]
+
+
+def turned(phase: Fraction) -> str:
+    """A phase in words: 1/4 of a turn, that is pi/2."""
+    half_turns = phase * 2
+    number = "" if half_turns.numerator == 1 else f"{half_turns.numerator}*"
+    under = "" if half_turns.denominator == 1 else f"/{half_turns.denominator}"
+    return f"{phase} of a turn ({number}pi{under})"
+
+
+def _of_no(answer: No) -> List[str]:
+    if answer.second_input is not None:
+        return [
+            f"no {answer.input.bits} {answer.second_input.bits}",
+            f"At each of the inputs {answer.input} and {answer.second_input} the two circuits differ by a phase, and these "
+            "two phases are different: no one phase makes the circuits alike.",
+        ]
+    if answer.behind:
+        return [
+            f"no {answer.input.bits} behind {answer.behind}",
+            f"The two circuits differ. Behind the first {answer.behind} items of both, the rest differs at the basis state "
+            f"{_each(answer.input)}; which input of the whole leads there was not asked.",
+        ]
+    head = f"no {answer.input.bits}"
+    if answer.question == "phase":
+        return [
+            head,
+            f"At the basis input {_each(answer.input)} the two circuits give states that differ by more than a phase.",
+        ]
+    means = f"At the basis input {_each(answer.input)} the two circuits give different states."
+    return [head, means, EXACT if answer.phase is None else _up_to(answer.phase)]
+
+
+def _each(given: Input) -> str:
+    if len(given.bits) <= MANY:
+        return ", ".join(f"{qubit}={bit}" for qubit, bit in given)
+    ones = [str(qubit) for qubit in given.ones]
+    if not ones:
+        return "with all qubits 0"
+    if len(ones) <= MANY:
+        return f"with {', '.join(ones)} 1 and all others 0"
+    return str(given)
+
+
+EXACT = (
+    "This is about exact maps: a global phase counts, though no measurement shows it. rx(pi) is x only up to one, for "
+    "example; see docs/VERDICTS.md."
+)
+"""What is told behind a no where it isn't known that a phase alone differs."""
+
+
+def _up_to(phase: Fraction) -> str:
+    return (
+        f"But that is all: they are one map up to a global phase of {turned(phase)}, which no measurement of the whole "
+        "circuit shows. With --phase such circuits are a yes."
+    )
+
+
+def _of_unknown(answer: Unknown, full: bool) -> List[str]:
+    if answer.limit is not None:
+        return _of_limit(answer.limit)
+    assert answer.remaining is not None
+    return [
+        "unknown stuck " + _told(answer.remaining, full),
+        "Neither was shown: the comparison came to a sum that none of the three rules reduces. The circuits may be equal or "
+        "not.",
+        *_of_sum(answer.remaining),
+        "What to try: compare the part that was rewritten instead of the whole, or rewrite in smaller steps and compare each.",
+    ]
+
+
+def _of_limit(limit: Limit) -> List[str]:
+    count = "10^12 or more" if limit.count >= 10**12 else f"{limit.count:,}"
+    head = f"unknown passed {limit.what} {limit.count}"
+    if limit.what == "terms":
+        return [
+            head,
+            f"Neither was shown: a sum on the way would have {count} terms, and at most {limit.allowed:,} are allowed. The "
+            "circuits may be equal or not.",
+            "What to try: compare the part that was rewritten instead of the whole, or circuits on fewer bits. Sums grow "
+            "where angles finer than pi/4 meet sums of many qubits, and where many carries wait for their undoing.",
+        ]
+    return [
+        head,
+        f"Neither was shown: comparing would take {count} variables, and at most {limit.allowed} are allowed (two for each "
+        "qubit, and what Hadamards and rotations leave). The circuits may be equal or not.",
+        "What to try: compare the part that was rewritten instead of the whole, or circuits on fewer bits.",
+    ]
+
+
+def _told(remaining: RemainingSum, full: bool) -> str:
+    if full or len(remaining.text) <= SHORT:
+        return remaining.text
+    return f"k={remaining.scale} m={remaining.variables}, of {remaining.terms:,} terms"
+
+
+def _of_sum(remaining: RemainingSum) -> List[str]:
+    lines = [
+        f"What is left is a sum over m={remaining.variables} path variables y0, y1, .. that are 0 or 1, divided by the root "
+        f"of 2 to the k={remaining.scale}; P is the phase of each summand in turns, in {remaining.terms:,} "
+        f"{'term' if remaining.terms == 1 else 'terms'} of inputs x and path variables y; f=- says that no output is left.",
+    ]
+    if len(remaining.text) > SHORT:
+        lines.append(f"It is {len(remaining.text):,} bytes long; --full prints it whole.")
+    return lines
+
+
+def _span(lines: Tuple[int, int]) -> str:
+    first, last = lines
+    if last < first:
+        return f"nothing before line {first}"
+    return f"line {first}" if first == last else f"lines {first} to {last}"
+
+
+def _of_shared(answer: Answer, shared: Shared) -> str:
+    return (
+        f"Alike are the first {shared.front} and the last {shared.back} items; between them {answer.first} has "
+        f"{_span(shared.first_lines)}, and {answer.second} {_span(shared.second_lines)}."
+    )

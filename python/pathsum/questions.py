@@ -1,0 +1,341 @@
+"""The questions that the program answers, asked from Python."""
+from __future__ import annotations
+
+import dataclasses
+import os
+import re
+import threading
+import time
+from concurrent.futures import ThreadPoolExecutor
+from dataclasses import dataclass
+from fractions import Fraction
+from typing import Any, Callable, Iterable, Iterator, List, Optional, Tuple, Union
+
+from .answers import (
+    LIMITS,
+    Accepted,
+    Answer,
+    Input,
+    Left,
+    Limit,
+    No,
+    Rejected,
+    RemainingSum,
+    Shared,
+    Unknown,
+    Yes,
+)
+from .circuits import LONGEST, MARK, Circuit, circuit_of, read_file
+from .errors import CircuitError, PathsumError, ProgramError, TimeLimitError, TooLongError, UndecidedError
+from .faults import fault_of
+from .program import Reply, ask, find_program
+
+Source = Any
+"""A circuit: a text, a path, a file's bytes, a `Circuit`, or an object with `qasm()`; see `circuit_of`."""
+ToQasm = Optional[Callable[[Any], str]]
+
+REFUSED = re.compile(r"input ([A-Za-z]+) ([0-9]+):([0-9]+)")
+NO = re.compile(r"no ([01]+)(?: ([01]+))?(?: behind ([0-9]+))?")
+PASSED = re.compile(r"unknown passed (terms|variables) ([0-9]+)")
+REJECTED = re.compile(r"rejected ([0-9]+) ([A-Za-z]+)")
+PHASE = re.compile(r"yes phase ([0-9]+(?:/[0-9]+)?)")
+
+
+class NotKnownError(ProgramError):
+    """The program doesn't know the words of this question."""
+
+
+@dataclass(frozen=True)
+class _Asking:
+    """A question and how it is asked."""
+
+    question: str
+    circuits: Tuple[Circuit, ...]
+    timeout: Optional[float]
+    cancel: Optional[threading.Event]
+
+    def ask(self, words: Tuple[str, ...], derivation: bytes = b"") -> Reply:
+        pieces = [circuit.joined for circuit in self.circuits] + ([derivation] if words == ("replay",) else [])
+        given = (MARK + b"\n").join(pieces)
+        if len(given) > LONGEST:
+            raise TooLongError(f"the circuits together have {len(given):,} bytes, and at most {LONGEST:,} are read")
+        return ask(words, given, self.timeout, self.cancel)
+
+    def answer(self, kind: Any, reply: Reply, line: str, **fields: Any) -> Any:
+        first, second = (circuit.name for circuit in self.circuits)
+        return kind(self.question, first, second, line, find_program().proved, reply.seconds, **fields)
+
+    def read(self, reply: Reply, derivation: bytes = b"") -> Answer:
+        """The answer that a reply is."""
+        text = reply.output.decode("ascii", "replace")
+        line = text.split("\n", 1)[0]
+        if reply.status == 0:
+            return self._agreed(reply, text, line)
+        if reply.status == 1 and NO.fullmatch(line):
+            return self._differ(reply, line)
+        if reply.status == 1 and REJECTED.fullmatch(line):
+            return self._rejected(reply, line, derivation)
+        if reply.status == 2 and line.startswith("left "):
+            return self.answer(Left, reply, line, remaining=RemainingSum.of(line[len("left ") :]))  # type: ignore[no-any-return]
+        if reply.status == 2 and line.startswith("unknown stuck "):
+            remaining = RemainingSum.of(line[len("unknown stuck ") :])
+            return self.answer(Unknown, reply, line, remaining=remaining)  # type: ignore[no-any-return]
+        passed = PASSED.fullmatch(line)
+        if reply.status == 2 and passed:
+            limit = Limit(passed[1], int(passed[2]), LIMITS[passed[1]])
+            return self.answer(Unknown, reply, line, limit=limit)  # type: ignore[no-any-return]
+        raise self._no_answer(reply, line)
+
+    def _agreed(self, reply: Reply, text: str, line: str) -> Answer:
+        if line == "accepted":
+            return self.answer(Accepted, reply, line)  # type: ignore[no-any-return]
+        phase = PHASE.fullmatch(line)
+        if phase:
+            return self.answer(Yes, reply, line, phase=Fraction(phase[1]))  # type: ignore[no-any-return]
+        if self.question == "prove" and line.startswith("pathsum "):
+            return self.answer(Yes, reply, line, derivation=text)  # type: ignore[no-any-return]
+        if line == "yes":
+            return self.answer(Yes, reply, line)  # type: ignore[no-any-return]
+        raise self._no_answer(reply, line)
+
+    def _differ(self, reply: Reply, line: str) -> Answer:
+        found = NO.fullmatch(line)
+        assert found
+        qubits = self.circuits[0].qubits
+        second = Input(found[2], qubits) if found[2] else None
+        behind = int(found[3] or 0)
+        return self.answer(No, reply, line, input=Input(found[1], qubits), second_input=second, behind=behind)  # type: ignore[no-any-return]
+
+    def _rejected(self, reply: Reply, line: str, derivation: bytes) -> Answer:
+        found = REJECTED.fullmatch(line)
+        assert found
+        number, lines = int(found[1]), derivation.split(b"\n")
+        source = lines[number - 1].decode("utf-8", "replace") if number <= len(lines) else ""
+        return self.answer(Rejected, reply, line, number=number, reason=found[2], source=source)  # type: ignore[no-any-return]
+
+    def _no_answer(self, reply: Reply, line: str) -> PathsumError:
+        refused = REFUSED.fullmatch(line)
+        if reply.status == 65 and refused:
+            return CircuitError(fault_of(refused[1], int(refused[2]), int(refused[3]), self.circuits))
+        if reply.status == 64:
+            return NotKnownError(f"the program does not know the words of this question ({self.question})")
+        if reply.status == 68:
+            return TooLongError(f"the circuits together have more than {LONGEST:,} bytes")
+        if reply.status == 70 and line == "memory":
+            return ProgramError("the program ran out of memory")
+        if reply.status < 0:
+            return ProgramError(f"the program was ended by signal {-reply.status}, for want of memory perhaps")
+        complaint = reply.complaint.decode("utf-8", "replace").strip().split("\n")[-1]
+        said = complaint or line[:200] or "nothing"
+        return ProgramError(f"the program gave no answer: it ended with status {reply.status} and said: {said}")
+
+
+def _asking(question: str, first: Source, second: Source, to_qasm: ToQasm, timeout: Any, cancel: Any) -> _Asking:
+    circuits = (circuit_of(first, "first circuit", to_qasm), circuit_of(second, "second circuit", to_qasm))
+    return _Asking(question, circuits, timeout, cancel)
+
+
+def same(
+    first: Source,
+    second: Source,
+    *,
+    phase: bool = False,
+    to_qasm: ToQasm = None,
+    timeout: Optional[float] = None,
+    cancel: Optional[threading.Event] = None,
+) -> Union[Yes, No, Unknown]:
+    """Whether two circuits are one linear map: exactly, or with `phase` up to a global phase.
+
+    A circuit is an OpenQASM 2.0 text, a path, or an object with a method `qasm()`; `to_qasm` makes a text of any other
+    object. After `timeout` seconds, or once the event `cancel` is set, the program is ended. Raises CircuitError where a
+    text is refused, and another PathsumError where there is no answer."""
+    asking = _asking("phase" if phase else "same", first, second, to_qasm, timeout, cancel)
+    return asking.read(asking.ask(("same", "phase") if phase else ("same",)))  # type: ignore[return-value]
+
+
+def prove(
+    first: Source,
+    second: Source,
+    *,
+    to_qasm: ToQasm = None,
+    timeout: Optional[float] = None,
+    cancel: Optional[threading.Event] = None,
+) -> Union[Yes, No, Unknown]:
+    """As `same`; a yes has the derivation that shows it."""
+    asking = _asking("prove", first, second, to_qasm, timeout, cancel)
+    return asking.read(asking.ask(("prove",)))  # type: ignore[return-value]
+
+
+def replay(
+    first: Source,
+    second: Source,
+    derivation: Union[str, bytes, "os.PathLike[str]", Yes],
+    *,
+    to_qasm: ToQasm = None,
+    timeout: Optional[float] = None,
+    cancel: Optional[threading.Event] = None,
+) -> Union[Accepted, Rejected, Left]:
+    """Whether a derivation shows that two circuits are one linear map, whoever wrote it. It is a text (which has a line
+    end), a path, or a Yes of `prove`."""
+    asking = _asking("replay", first, second, to_qasm, timeout, cancel)
+    data = _derivation(derivation)
+    return asking.read(asking.ask(("replay",), data), data)  # type: ignore[return-value]
+
+
+def _derivation(given: Any) -> bytes:
+    if isinstance(given, Yes):
+        given = given.derivation or ""
+    elif not isinstance(given, (bytes, bytearray)) and not (isinstance(given, str) and ("\n" in given or not given)):
+        return read_file(given, "a derivation")
+    return given.encode("utf-8", "surrogateescape") if isinstance(given, str) else bytes(given)
+
+
+def with_phase(
+    answer: Answer,
+    first: Source,
+    second: Source,
+    *,
+    to_qasm: ToQasm = None,
+    timeout: Optional[float] = None,
+    cancel: Optional[threading.Event] = None,
+) -> Answer:
+    """A plain no, with the global phase up to which the circuits are one map after all, where they are and the program can
+    tell; each other answer as it is."""
+    if not isinstance(answer, No) or answer.question == "phase" or answer.behind:
+        return answer
+    try:
+        again = same(first, second, phase=True, to_qasm=to_qasm, timeout=timeout, cancel=cancel)
+    except (NotKnownError, TimeLimitError):
+        return answer
+    return dataclasses.replace(answer, phase=again.phase) if isinstance(again, Yes) else answer
+
+
+def compare(
+    first: Source,
+    second: Source,
+    *,
+    to_qasm: ToQasm = None,
+    timeout: Optional[float] = None,
+    cancel: Optional[threading.Event] = None,
+) -> Union[Yes, No, Unknown]:
+    """As `same`, in the way that answers most: first what the circuits do not share is asked about, where the program knows
+    that question, then the whole where an input is wanted; and behind a no whether a phase alone differs."""
+    circuits = [circuit_of(first, "first circuit", to_qasm), circuit_of(second, "second circuit", to_qasm)]
+    how = {"timeout": _Remaining(timeout), "cancel": cancel}
+    answer = _compared(circuits, how)
+    return with_phase(answer, *circuits, timeout=how["timeout"].left(), cancel=cancel)  # type: ignore[return-value]
+
+
+class _Remaining:
+    """What is left of a time limit."""
+
+    def __init__(self, timeout: Optional[float]) -> None:
+        self.end = None if timeout is None else time.monotonic() + timeout
+
+    def left(self) -> Optional[float]:
+        return None if self.end is None else max(0.0, self.end - time.monotonic())
+
+
+def _compared(circuits: List[Circuit], how: Any) -> Answer:
+    # (where a program knows no local questions, the whole is asked at once)
+    return same(*circuits, timeout=how["timeout"].left(), cancel=how["cancel"])
+
+
+def assert_same(
+    first: Source,
+    second: Source,
+    message: Optional[str] = None,
+    *,
+    phase: bool = False,
+    to_qasm: ToQasm = None,
+    timeout: Optional[float] = None,
+) -> None:
+    """For test suites: fails with what the answer means unless it is a yes. Unknown fails too, and says that it is one."""
+    circuits = [circuit_of(first, "first circuit", to_qasm), circuit_of(second, "second circuit", to_qasm)]
+    if phase:
+        answer: Answer = same(*circuits, phase=True, timeout=timeout)
+    else:
+        answer = compare(*circuits, timeout=timeout)
+    if answer.verdict != "yes":
+        said = f"{circuits[0].name} and {circuits[1].name} are not shown to be the same: {answer.explain()}"
+        raise AssertionError(f"{message}\n{said}" if message else said)
+
+
+@dataclass(frozen=True)
+class Outcome:
+    """What came of one pair of many: an answer, or why there is none."""
+
+    first: str
+    second: str
+    answer: Optional[Answer]
+    error: Optional[PathsumError]
+
+    @property
+    def status(self) -> int:
+        return self.answer.status if self.answer is not None else self.error.status  # type: ignore[union-attr]
+
+    @property
+    def verdict(self) -> str:
+        if self.answer is not None:
+            return self.answer.verdict
+        return "refused" if isinstance(self.error, CircuitError) else "error"
+
+
+def same_many(
+    pairs: Iterable[Tuple[Source, Source]],
+    *,
+    phase: bool = False,
+    to_qasm: ToQasm = None,
+    timeout: Optional[float] = None,
+    cancel: Optional[threading.Event] = None,
+    workers: Optional[int] = None,
+) -> Iterator[Outcome]:
+    """Asks about many pairs, as many side by side as there are processors or as `workers` says, and gives what comes of each
+    in the order of the pairs. `timeout` is that of one pair. A pair that has no answer stops no other."""
+    given = list(pairs)
+    stop = cancel if cancel is not None else threading.Event()
+    count = max(1, min(len(given), workers or os.cpu_count() or 1))
+    if find_program().proved is False:
+        # (each question builds a program first, on all processors)
+        count = 1
+
+    def one(pair: Tuple[Source, Source]) -> Outcome:
+        names = [_name(source, what) for source, what in zip(pair, ("first circuit", "second circuit"))]
+        try:
+            answer = same(*pair, phase=phase, to_qasm=to_qasm, timeout=timeout, cancel=stop)
+            return Outcome(names[0], names[1], answer, None)
+        except PathsumError as error:
+            return Outcome(names[0], names[1], None, error)
+
+    with ThreadPoolExecutor(count) as pool:
+        futures = [pool.submit(one, pair) for pair in given]
+        try:
+            for future in futures:
+                yield future.result()
+        except BaseException:
+            stop.set()
+            for future in futures:
+                future.cancel()
+            raise
+
+
+def _name(source: Source, what: str) -> str:
+    if isinstance(source, Circuit):
+        return source.name
+    if isinstance(source, os.PathLike) or isinstance(source, str) and "\n" not in source and ";" not in source:
+        return os.fsdecode(os.fspath(source))
+    return what
+
+
+__all__ = [
+    "Outcome",
+    "NotKnownError",
+    "Shared",
+    "UndecidedError",
+    "assert_same",
+    "compare",
+    "prove",
+    "replay",
+    "same",
+    "same_many",
+]

@@ -1,0 +1,90 @@
+"""Answers and errors as plain records, which docs/JSON.md describes."""
+from __future__ import annotations
+
+from typing import Any, Dict, Optional
+
+from .answers import Accepted, Answer, Input, Left, No, Rejected, RemainingSum, Shared, Unknown, Yes
+from .errors import CircuitError, Fault, PathsumError
+
+SCHEMA = 1
+"""Rises where a field changes its meaning or goes; new fields alone do not raise it."""
+
+
+def record_of(answer: Answer) -> Dict[str, Any]:
+    record: Dict[str, Any] = {
+        "schema": SCHEMA,
+        "question": answer.question,
+        "verdict": answer.verdict,
+        "status": answer.status,
+        "first": answer.first,
+        "second": answer.second,
+        "line": answer.line,
+        "proved": answer.proved,
+        "seconds": round(answer.seconds, 3),
+    }
+    if isinstance(answer, Yes):
+        record["phase"] = None if answer.phase is None else str(answer.phase)
+        record["derivation"] = answer.derivation
+    elif isinstance(answer, No):
+        record["input"] = _input(answer.input)
+        record["second_input"] = None if answer.second_input is None else _input(answer.second_input)
+        record["behind"] = answer.behind
+        record["phase"] = None if answer.phase is None else str(answer.phase)
+    elif isinstance(answer, Unknown):
+        record["remaining"] = None if answer.remaining is None else _sum(answer.remaining)
+        limit = answer.limit
+        record["limit"] = limit and {"what": limit.what, "count": limit.count, "allowed": limit.allowed}
+    elif isinstance(answer, Rejected):
+        record.update(number=answer.number, reason=answer.reason, source=answer.source)
+    elif isinstance(answer, Left):
+        record["remaining"] = _sum(answer.remaining)
+    if not isinstance(answer, (Accepted, Rejected, Left)):
+        record["shared"] = _shared(getattr(answer, "shared", None))
+    return record
+
+
+def _input(given: Input) -> Dict[str, Any]:
+    qubits = [{"register": qubit.register, "index": qubit.index, "value": bit} for qubit, bit in given]
+    return {"bits": given.bits, "qubits": qubits}
+
+
+def _sum(remaining: RemainingSum) -> Dict[str, Any]:
+    return {
+        "text": remaining.text,
+        "scale": remaining.scale,
+        "variables": remaining.variables,
+        "terms": remaining.terms,
+    }
+
+
+def _shared(shared: Optional[Shared]) -> Optional[Dict[str, Any]]:
+    return shared and {
+        "front": shared.front,
+        "back": shared.back,
+        "first_lines": list(shared.first_lines),
+        "second_lines": list(shared.second_lines),
+    }
+
+
+def error_record(error: PathsumError) -> Dict[str, Any]:
+    """What stands in the place of an answer where there is none."""
+    fault = error.fault if isinstance(error, CircuitError) else None
+    return {
+        "schema": SCHEMA,
+        "verdict": "refused" if fault else "error",
+        "status": error.status,
+        "message": str(error) if fault is None else f"{fault.name}: {fault.message}",
+        "fault": fault and fault_record(fault),
+    }
+
+
+def fault_record(fault: Fault) -> Dict[str, Any]:
+    return {
+        "name": fault.name,
+        "file": fault.file,
+        "line": fault.line,
+        "column": fault.column,
+        "source": fault.source,
+        "message": fault.message,
+        "advice": fault.advice,
+    }
