@@ -1,9 +1,9 @@
 -- The faults of a text and of a block are within it.
-use Rattle.std.proofs.Common.{◌≡◌, ℕ, zero, suc, ◌+◌, ◌-◌, ◌<◌, ◌≤◌, Bool, true, false, not, nat_eq, ◌||◌, Option, Some, None, inl, inr, List, [], ◌∷◌, ◌++◌, length, get_or, Result, Ok, Err, refl, sym, ◌∙◌, ap, subst, arith, if◌then◌else◌}
-use Rattle.std.specs.Prelude.{All, option_map, nat_le, nat_lt, ◌&&◌, is_some, IfErr}
+use Rattle.std.proofs.Common.{◌≡◌, ℕ, zero, suc, ◌+◌, ◌≤◌, Bool, true, false, not, nat_eq, Option, Some, None, inl, inr, List, [], ◌∷◌, ◌++◌, length, Result, Ok, Err, refl, sym, ap, subst, arith, if◌then◌else◌}
+use Rattle.std.specs.Prelude.{All, map, option_map, nat_le, nat_lt, ◌&&◌, is_some, IfErr}
 use Rattle.std.proofs.lemmas.Bool.{cases_lt}
-use Rattle.std.proofs.lemmas.List.{get_or_past, length-map}
-use Rattle.std.proofs.lemmas.List.Elements.{All-nil, All-cons, All-head, All-tail, All-weaker, All-map}
+use Rattle.std.proofs.lemmas.List.{get_or_past}
+use Rattle.std.proofs.lemmas.List.Elements.{All-head, All-tail, All-weaker, All-map}
 use Rattle.ps_prim.specs.declared.prims.Primitive.{Primitive as Prim}
 use Rattle.qasm_lex.specs.declared.types.Token.{Token}
 use Rattle.qasm_lex.specs.declared.types.Kind.TheVariants.{Sign}
@@ -13,8 +13,6 @@ use Rattle.qasm_lex.specs.Tokens.{IsFault, Reads, finished, gap, token, bad}
 use Rattle.qasm_lex.specs.Tokens as tokens
 use Rattle.qasm_angle.specs.declared.types.AngleFault.{AngleFault}
 use Rattle.qasm_angle.specs.declared.types.AngleFault.TheVariants as angle
-use Rattle.qasm_parse.specs.declared.sort.Sort.{Sort}
-use Rattle.qasm_parse.specs.declared.sort.Sort.TheVariants.{Id, Whole, Semicolon, Comma, Open, Close, OpenBracket, CloseBracket, OpenBrace}
 use Rattle.qasm_parse.specs.declared.fault.ParseFault.{ParseFault}
 use Rattle.qasm_parse.specs.declared.fault.ParseFault.TheVariants as parse
 use Rattle.qasm_parse.specs.declared.program.Span.{Span}
@@ -27,18 +25,13 @@ use Rattle.qasm_parse.specs.declared.program.Inner.{Inner as Stated}
 use Rattle.qasm_parse.specs.declared.program.Inner.TheVariants.{Apply as ApplyInner, Barrier as BarrierInner}
 use Rattle.qasm_parse.specs.declared.program.Statement.{Statement}
 use Rattle.qasm_parse.specs.declared.program.Statement.TheVariants as statement
-use Rattle.qasm_parse.specs.declared.phrases.Form.TheVariants.{Indexed}
-use Rattle.qasm_parse.specs.declared.whence.Whence.{Whence}
-use Rattle.qasm_parse.specs.declared.whence.Whence.TheVariants.{Text as TextWhence, Block}
-use Rattle.qasm_parse.specs.declared.whence.Bits.{Bits}
-use Rattle.qasm_parse.specs.declared.whence.Bits.TheVariants.{Quantum, Classical}
-use Rattle.qasm_parse.specs.Sorts.{IsWithin, sort_of, sorts_of}
-use Rattle.qasm_parse.specs.Phrases.{Got, got, miss, Gives, After, Then, Listed, Enclosed, IsSpan, IsArg, span_of}
-use Rattle.qasm_parse.specs.Formulas.{IsFormula, formula, no_formula}
-use Rattle.qasm_parse.specs.Statements.{IsCall, universal, controlled, applied, IsBody, IsRegister, made, IsDeclaration, includes, other_text, no_text, quantum, classical, defines, IsStatement, apply, barrier, declares, outside, opaquely, no_statement, IsProgram, over, statement, faulty, IsText, no_word, no_version, no_sign, text, offset, placed, answer, OfText, OfBlock}
+use Rattle.qasm_parse.specs.declared.whence.Whence.TheVariants.{Block}
+use Rattle.qasm_parse.specs.Sorts.{IsWithin, sorts_of}
+use Rattle.qasm_parse.specs.Phrases.{Got, got, miss}
+use Rattle.qasm_parse.specs.Statements.{made, offset, placed, answer, OfText, OfBlock}
 use Rattle.qasm_parse.specs.Places.{SpanIn, IndexIn, ArgIn, FormulaIn, CallIn, InnerIn, StatementIn}
 use Rattle.qasm_parse.proofs.Cut.{all_within}
-use Rattle.qasm_parse.proofs.Within.{On, Has, gives_has, after_has, then_has, put_has, listed_has, enclosed_has, text_within, block_within}
+use Rattle.qasm_parse.proofs.Within.{On, text_within, block_within}
 use Rattle.qasm_expand.specs.declared.fault.FaultName.{FaultName}
 use Rattle.qasm_expand.specs.declared.fault.FaultName.TheVariants.{Unknown, Arity, Redeclared, Range, RepeatedQubit, Sizes, TooMany, NoParameter, NoQubits}
 use Rattle.qasm_expand.specs.declared.fault.ReadFault.{ReadFault}
@@ -46,6 +39,7 @@ use Rattle.qasm_expand.specs.declared.fault.ReadFault.TheVariants.{Fault, Memory
 use Rattle.qasm_expand.specs.Checks.{spelled, number_at, and_then, or_fault, unless, refuse, of_tokens, of_grammar, of_angle}
 use Rattle.qasm_expand.specs.declared.broken.Broken.{Broken}
 use Rattle.qasm_expand.specs.declared.broken.Broken.TheVariants.{Own, Inside}
+use Rattle.qasm_expand.specs.declared.defs.Called.TheVariants.{Def as ADef}
 use Rattle.qasm_expand.specs.declared.defs.Def.{Def}
 use Rattle.qasm_expand.specs.declared.state.State.{State}
 use Rattle.qasm_expand.specs.declared.tables.Circuit.{Circuit}
@@ -60,6 +54,7 @@ use Rattle.qasm_expand.specs.Statements.{bad_size, declared_as, behind, past, Ta
 use Rattle.qasm_expand.specs.Circuits.{TableOf, CircuitOf, nothing_yet, circuit_of, closed, ReadsText, misread, expanded, behind_text, items_of, ReadsBlock, misread_block, expanded_block}
 use Rattle.qasm_expand.specs.Reading.{CircuitTold, ItemsTold}
 use Rattle.qasm_expand.specs.Places.{IsInside, IsPlaced}
+use Rattle.qasm_expand.proofs.FirstBytes.{FormulaFrom, StatementFrom, text_from, program_from}
 
 module _ (bytes : List ℕ) where
   -- the fault, where there is one, is inside
@@ -116,112 +111,15 @@ module _ (bytes : List ℕ) where
   block_fails r (bad_block_tokens {f = f} h) = reads_inside 0 (Err f) h
   block_fails r (by_block_grammar {tk = tk} {r = x} h (g, _, e)) = answer_inside tk (all_within bytes tk h) g x e
 
-  -- ---- first bytes of expressions
-  abbrev pub FormulaFrom : Formula → Type 0
-  FormulaFrom f = f.from ≤ length bytes
-
-  abbrev pub StatementFrom : Statement → Type 0
-  StatementFrom (statement.Apply c) = All FormulaFrom c.params
-  StatementFrom s = Unit {0}
-
-  abbrev Any : {A : Type 0} → A → Type 0
-  Any a = Unit {0}
-
-  module _ (tk : List Token) (ts : List Sort) (in_it : All (IsWithin bytes) tk) where
-    anything : {A : Type 0} (thing : ℕ → Got A → Type 0) → Has Any thing
-    anything thing i (got a j) h = tt
-    anything thing i (miss f) h = tt
-
-    span_from : (i : ℕ) → (span_of tk i).from ≤ length bytes
-    span_from i = elim (cases_lt i (length tk)) [
-      | inl lt ↦ (let p = in_it i (record { kind = Sign; from = 0; to = 0 }) lt in let x = p.0 in let y = p.1 in omega arith)
-      | inr le ↦ (let e = ap (λ (t : Token). t.from) (get_or_past tk i (record { kind = Sign; from = 0; to = 0 }) le) in omega arith)
-    ]
-
-    formula_from : Has FormulaFrom (IsFormula bytes tk ts)
-    formula_from i g (formula {f = f} h o e p) = let l = span_from i in omega arith
-    formula_from i g (no_formula h) = tt
-
-    abbrev CallFrom : Call → Type 0
-    CallFrom c = All FormulaFrom c.params
-
-    call_from : Has CallFrom (IsCall bytes tk ts Indexed)
-    call_from i g (universal e h) =
-        let last = λ (ps : List Formula) (a : Arg). After ts Semicolon (Gives (record { gate = UWord; at = span_of tk i; params = ps; args = a ∷ [] })) in
-        let rest = λ (ps : List Formula). After ts Close (Then (IsArg tk ts Indexed) (last ps)) in
-        after_has ts Open CallFrom (Then (Listed ts (IsFormula bytes tk ts)) rest) (then_has (All FormulaFrom) CallFrom (Listed ts (IsFormula bytes tk ts)) rest (listed_has ts FormulaFrom (IsFormula bytes tk ts) formula_from)
-        (λ ps q. after_has ts Close CallFrom (Then (IsArg tk ts Indexed) (last ps)) (then_has Any CallFrom (IsArg tk ts Indexed) (last ps) (anything (IsArg tk ts Indexed))
-        (λ a _. after_has ts Semicolon CallFrom (Gives (record { gate = UWord; at = span_of tk i; params = ps; args = a ∷ [] })) (gives_has CallFrom (record { gate = UWord; at = span_of tk i; params = ps; args = a ∷ [] }) q))))) (i + 1) g h
-    call_from i g (controlled e h) =
-        let last = λ (a b : Arg). After ts Semicolon (Gives (record { gate = CxWord; at = span_of tk i; params = []; args = a ∷ (b ∷ []) })) in
-        let rest = λ (a : Arg). After ts Comma (Then (IsArg tk ts Indexed) (last a)) in
-        then_has Any CallFrom (IsArg tk ts Indexed) rest (anything (IsArg tk ts Indexed)) (λ a _. after_has ts Comma CallFrom (Then (IsArg tk ts Indexed) (last a)) (then_has Any CallFrom (IsArg tk ts Indexed) (last a) (anything (IsArg tk ts Indexed))
-        (λ b _. after_has ts Semicolon CallFrom (Gives (record { gate = CxWord; at = span_of tk i; params = []; args = a ∷ (b ∷ []) })) (gives_has CallFrom (record { gate = CxWord; at = span_of tk i; params = []; args = a ∷ (b ∷ []) }) (All-nil FormulaFrom))))) (i + 1) g h
-    call_from i g (applied e h) =
-        let last = λ (ps : List Formula) (us : List Arg). After ts Semicolon (Gives (record { gate = Named; at = span_of tk i; params = ps; args = us })) in
-        let rest = λ (ps : List Formula). Then (Listed ts (IsArg tk ts Indexed)) (last ps) in
-        then_has (All FormulaFrom) CallFrom (Enclosed ts (IsFormula bytes tk ts)) rest (enclosed_has ts FormulaFrom (IsFormula bytes tk ts) formula_from)
-        (λ ps q. then_has Any CallFrom (Listed ts (IsArg tk ts Indexed)) (last ps) (anything (Listed ts (IsArg tk ts Indexed)))
-        (λ us _. after_has ts Semicolon CallFrom (Gives (record { gate = Named; at = span_of tk i; params = ps; args = us })) (gives_has CallFrom (record { gate = Named; at = span_of tk i; params = ps; args = us }) q))) (i + 1) g h
-
-    made_from : (bits : Bits) (name size : Span) → StatementFrom (made bits name size)
-    made_from Quantum name size = tt
-    made_from Classical name size = tt
-
-    register_from : (bits : Bits) → Has StatementFrom (IsRegister tk ts (made bits))
-    register_from bits i g h =
-        let last = λ (name size : Span). After ts Semicolon (Gives (made bits name size)) in
-        let close = λ (name size : Span). After ts CloseBracket (last name size) in
-        let rest = λ (name : Span). After ts OpenBracket (Then (IsSpan tk ts Whole) (close name)) in
-        then_has Any StatementFrom (IsSpan tk ts Id) rest (anything (IsSpan tk ts Id))
-        (λ name _. after_has ts OpenBracket StatementFrom (Then (IsSpan tk ts Whole) (close name)) (then_has Any StatementFrom (IsSpan tk ts Whole) (close name) (anything (IsSpan tk ts Whole))
-        (λ size _. after_has ts CloseBracket StatementFrom (last name size) (after_has ts Semicolon StatementFrom (Gives (made bits name size)) (gives_has StatementFrom (made bits name size) (made_from bits name size)))))) i g h
-
-    declaration_from : Has StatementFrom (IsDeclaration bytes tk ts)
-    declaration_from i g (includes e f h) = after_has ts Semicolon StatementFrom (Gives (statement.Include (span_of tk (i + 1)))) (gives_has StatementFrom (statement.Include (span_of tk (i + 1))) tt) (i + 2) g h
-    declaration_from i g (other_text e f) = tt
-    declaration_from i g (no_text e n m) = tt
-    declaration_from i g (quantum e h) = register_from Quantum (i + 1) g h
-    declaration_from i g (classical e h) = register_from Classical (i + 1) g h
-    declaration_from i g (defines e h) =
-        let body = λ (name : Span) (ps us : List Span). Then (IsBody bytes tk ts) (λ body. Gives (statement.Gate name ps us body)) in
-        let args = λ (name : Span) (ps : List Span). Then (Listed ts (IsSpan tk ts Id)) (λ us. After ts OpenBrace (body name ps us)) in
-        let params = λ (name : Span). Then (Enclosed ts (IsSpan tk ts Id)) (args name) in
-        then_has Any StatementFrom (IsSpan tk ts Id) params (anything (IsSpan tk ts Id))
-        (λ name _. then_has Any StatementFrom (Enclosed ts (IsSpan tk ts Id)) (args name) (anything (Enclosed ts (IsSpan tk ts Id)))
-        (λ ps _. then_has Any StatementFrom (Listed ts (IsSpan tk ts Id)) (λ us. After ts OpenBrace (body name ps us)) (anything (Listed ts (IsSpan tk ts Id)))
-        (λ us _. after_has ts OpenBrace StatementFrom (body name ps us) (then_has Any StatementFrom (IsBody bytes tk ts) (λ b. Gives (statement.Gate name ps us b)) (anything (IsBody bytes tk ts))
-        (λ b _. gives_has StatementFrom (statement.Gate name ps us b) tt))))) (i + 1) g h
-
-    statement_from : (w : Whence) → Has StatementFrom (IsStatement bytes tk ts w)
-    statement_from w i g (apply h) = then_has CallFrom StatementFrom (IsCall bytes tk ts Indexed) (λ c. Gives (statement.Apply c)) call_from (λ c q. gives_has StatementFrom (statement.Apply c) q) i g h
-    statement_from w i g (barrier e h) = then_has Any StatementFrom (Listed ts (IsArg tk ts Indexed)) (λ us. After ts Semicolon (Gives (statement.Barrier us))) (anything (Listed ts (IsArg tk ts Indexed)))
-        (λ us _. after_has ts Semicolon StatementFrom (Gives (statement.Barrier us)) (gives_has StatementFrom (statement.Barrier us) tt)) (i + 1) g h
-    statement_from w i g (declares e h) = declaration_from i g h
-    statement_from w i g (outside e) = tt
-    statement_from w i g (opaquely e) = tt
-    statement_from w i g (no_statement e) = tt
-
-    program_from : (w : Whence) → Has (All StatementFrom) (IsProgram bytes tk ts w)
-    program_from w i g (over e) = All-nil StatementFrom
-    program_from w i g (statement {j = j} {s = s} {r = r} n h k) = put_has StatementFrom s r (statement_from w i (got s j) h) (program_from w j r k)
-    program_from w i g (faulty n h) = tt
-
-    text_from : (g : Got (List Statement)) → IsText bytes tk ts g → On (All StatementFrom) g
-    text_from g (no_word n) = tt
-    text_from g (no_version e v) = tt
-    text_from g (no_sign e v n) = tt
-    text_from g (text e v s h) = program_from TextWhence 3 g h
-
   -- all spans of a statement, and the first bytes of its expressions
   abbrev pub Stands : Statement → Type 0
-  Stands s = StatementIn bytes s × StatementFrom s
+  Stands s = StatementIn bytes s × StatementFrom bytes s
 
-  from_answer : (tk : List Token) (g : Got (List Statement)) (ss : List Statement) → Ok ss ≡ answer bytes tk g → On (All StatementFrom) g → All StatementFrom ss
-  from_answer tk (got us j) ss e h = let f : ss ≡ us = cc in subst (All StatementFrom) (sym f) h
+  from_answer : (tk : List Token) (g : Got (List Statement)) (ss : List Statement) → Ok ss ≡ answer bytes tk g → On (All (StatementFrom bytes)) g → All (StatementFrom bytes) ss
+  from_answer tk (got us j) ss e h = let f : ss ≡ us = cc in subst (All (StatementFrom bytes)) (sym f) h
   from_answer tk (miss f) ss e h = absurd (cc)
 
-  both_stand : (ss : List Statement) → All (StatementIn bytes) ss → All StatementFrom ss → All Stands ss
+  both_stand : (ss : List Statement) → All (StatementIn bytes) ss → All (StatementFrom bytes) ss → All Stands ss
   both_stand ss h k i d lt = (h i d lt, k i d lt)
 
   parsed_ok : (x : Result (List Statement) ParseFault) (ss : List Statement) → parsed x ≡ Ok ss → x ≡ Ok ss
@@ -232,13 +130,13 @@ module _ (bytes : List ℕ) where
   text_stands r ss (bad_tokens h) e = absurd (cc)
   text_stands r ss (by_grammar {tk = tk} {r = x} h p) e =
       let q : OfText bytes tk (Ok ss) = subst (OfText bytes tk) (parsed_ok x ss e) p in
-      both_stand ss (text_within bytes tk ss h q) (from_answer tk q.0 ss q.2 (text_from tk (sorts_of bytes tk) (all_within bytes tk h) q.0 q.1))
+      both_stand ss (text_within bytes tk ss h q) (from_answer tk q.0 ss q.2 (text_from bytes tk (sorts_of bytes tk) (all_within bytes tk h) q.0 q.1))
 
   block_stands : (r : Result (List Statement) ReadFault) (ss : List Statement) → BlockIs bytes r → r ≡ Ok ss → All Stands ss
   block_stands r ss (bad_block_tokens h) e = absurd (cc)
   block_stands r ss (by_block_grammar {tk = tk} {r = x} h p) e =
       let q : OfBlock bytes tk (Ok ss) = subst (OfBlock bytes tk) (parsed_ok x ss e) p in
-      both_stand ss (block_within bytes tk ss h q) (from_answer tk q.0 ss q.2 (program_from tk (sorts_of bytes tk) (all_within bytes tk h) Block 0 q.0 q.1))
+      both_stand ss (block_within bytes tk ss h q) (from_answer tk q.0 ss q.2 (program_from bytes tk (sorts_of bytes tk) (all_within bytes tk h) Block 0 q.0 q.1))
 
   -- ---- checks
   -- the name may be told of a place
@@ -275,16 +173,16 @@ module _ (bytes : List ℕ) where
   called_fails : (bound : List Bound) (w : Word) (p : Span) → SpanIn bytes p → Fails (called bytes bound w p)
   called_fails bound UWord p h = tt
   called_fails bound CxWord p h = tt
-  called_fails bound Named p h = or_fails Unknown (λ at l. l) p (option_map Rattle.qasm_expand.specs.declared.defs.Called.TheVariants.Def (meaning bound (spelled bytes p))) h
+  called_fails bound Named p h = or_fails Unknown (λ at l. l) p (option_map ADef (meaning bound (spelled bytes p))) h
 
-  again_in : (o q : Option Span) (i : Option ℕ) (p : Span) → SpanIn bytes p → IndexIn bytes q → IndexIn bytes (again i p q)
-  again_in o q (Some i) p h k = h
-  again_in o q None p h k = k
+  again_in : (i : Option ℕ) (p : Span) (q : Option Span) → SpanIn bytes p → IndexIn bytes q → IndexIn bytes (again i p q)
+  again_in (Some i) p q h k = h
+  again_in None p q h k = k
 
   first_again_in : (seen : List (List ℕ)) (ps : List Span) → All (SpanIn bytes) ps → IndexIn bytes (first_again bytes seen ps)
   unfolding first_again
   first_again_in seen [] h = tt
-  first_again_in seen (p ∷ ps) h = again_in None (first_again bytes (seen ++ spelled bytes p ∷ []) ps) (place_of seen (spelled bytes p)) p (All-head (SpanIn bytes) p ps h) (first_again_in (seen ++ spelled bytes p ∷ []) ps (All-tail (SpanIn bytes) p ps h))
+  first_again_in seen (p ∷ ps) h = again_in (place_of seen (spelled bytes p)) p (first_again bytes (seen ++ spelled bytes p ∷ []) ps) (All-head (SpanIn bytes) p ps h) (first_again_in (seen ++ spelled bytes p ∷ []) ps (All-tail (SpanIn bytes) p ps h))
 
   places_fails : (formals : List (List ℕ)) (ps : List Span) → All (SpanIn bytes) ps → Fails (places bytes formals ps)
   unfolding places
@@ -315,7 +213,7 @@ module _ (bytes : List ℕ) where
   expressions_fails formals [] h = tt
   expressions_fails formals (f ∷ fs) h =
       then_fails (expression bytes formals f) (λ e. before e (expressions bytes formals fs))
-      (then_fails (numbers bytes formals f.ids) (λ is. Ok (Rattle.std.specs.Prelude.map (renumbered is) f.expr)) (numbers_fails formals f.ids (All-head (FormulaIn bytes) f fs h).0) (λ is. tt))
+      (then_fails (numbers bytes formals f.ids) (λ is. Ok (map (renumbered is) f.expr)) (numbers_fails formals f.ids (All-head (FormulaIn bytes) f fs h).0) (λ is. tt))
       (λ e. before_gates e (expressions bytes formals fs) (expressions_fails formals fs (All-tail (FormulaIn bytes) f fs h)))
 
   module _ (defs : List Def) (bound : List Bound) where
@@ -414,21 +312,21 @@ module _ (bytes : List ℕ) where
   angle_inside angle.ByZero at l = l
   angle_inside angle.Memory at l = tt
 
-  expression_in : (fs : List Formula) (k : ℕ) → All FormulaFrom fs → expression_at fs k ≤ length bytes
+  expression_in : (fs : List Formula) (k : ℕ) → All (FormulaFrom bytes) fs → expression_at fs k ≤ length bytes
   unfolding expression_at
   expression_in [] k h = omega arith
-  expression_in (f ∷ fs) zero h = All-head FormulaFrom f fs h
-  expression_in (f ∷ fs) (suc k) h = expression_in fs k (All-tail FormulaFrom f fs h)
+  expression_in (f ∷ fs) zero h = All-head (FormulaFrom bytes) f fs h
+  expression_in (f ∷ fs) (suc k) h = expression_in fs k (All-tail (FormulaFrom bytes) f fs h)
 
-  broken_inside : (c : Call) (b : Broken) → CallIn bytes c → All FormulaFrom c.params → IsInside bytes (broken_at c b)
+  broken_inside : (c : Call) (b : Broken) → CallIn bytes c → All (FormulaFrom bytes) c.params → IsInside bytes (broken_at c b)
   broken_inside c (Own s) h k = angle_inside s.fault (expression_at c.params s.at) (expression_in c.params s.at k)
   broken_inside c (Inside f) h k = angle_inside f c.at.from (span_at c.at h.0)
 
-  items_fails : (c : Call) (ts : List Target) (r : Result (List Prim) Broken) → CallIn bytes c → All FormulaFrom c.params → Fails (items_or_fault c ts r)
+  items_fails : (c : Call) (ts : List Target) (r : Result (List Prim) Broken) → CallIn bytes c → All (FormulaFrom bytes) c.params → Fails (items_or_fault c ts r)
   items_fails c ts (Ok gs) h k = tt
   items_fails c ts (Err b) h k = broken_inside c b h k
 
-  applies_fails : (rs : List Register) (defs : List Def) (bound : List Bound) (made : ℕ) (c : Call) (r : Result (List (List Prim)) ReadFault) → CallIn bytes c → All FormulaFrom c.params → Applies bytes rs defs bound made c r → Fails r
+  applies_fails : (rs : List Register) (defs : List Def) (bound : List Bound) (made : ℕ) (c : Call) (r : Result (List (List Prim)) ReadFault) → CallIn bytes c → All (FormulaFrom bytes) c.params → Applies bytes rs defs bound made c r → Fails r
   applies_fails rs defs bound made c r h k (missed e) = subst Fails e (aimed_fails rs defs bound made c h)
   applies_fails rs defs bound made c r h k (applies {a = a} {r = x} e p) = items_fails c a.targets x h k
 

@@ -148,19 +148,19 @@ module _ (front : List Def) where
 
       gate_named : (params args : List (List ℕ)) (c : Call) (r : Result Called ReadFault)
           → and_then (on_ok (called_behind (length front)) r) (λ gate. refuse (wrong_arity (all_behind defs) gate (length c.params) (length c.args)) Arity c.at
-            (and_then (places bytes args (arg_names c.args)) (λ qs. unless RepeatedQubit (first_repeated [] qs (arg_names c.args)) (and_then (expressions bytes params c.params) (λ es. Ok (record { gate = gate; params = es; args = qs }))))))
+          (and_then (places bytes args (arg_names c.args)) (λ qs. unless RepeatedQubit (first_repeated [] qs (arg_names c.args)) (and_then (expressions bytes params c.params) (λ es. Ok (record { gate = gate; params = es; args = qs }))))))
           ≡ on_ok (inner_behind (length front)) (and_then r (λ gate. refuse (wrong_arity defs gate (length c.params) (length c.args)) Arity c.at
-            (and_then (places bytes args (arg_names c.args)) (λ qs. unless RepeatedQubit (first_repeated [] qs (arg_names c.args)) (and_then (expressions bytes params c.params) (λ es. Ok (record { gate = gate; params = es; args = qs })))))))
+          (and_then (places bytes args (arg_names c.args)) (λ qs. unless RepeatedQubit (first_repeated [] qs (arg_names c.args)) (and_then (expressions bytes params c.params) (λ es. Ok (record { gate = gate; params = es; args = qs })))))))
       gate_named params args c (Err e) = refl
       gate_named params args c (Ok gate) =
           ap (λ b. refuse b Arity c.at (and_then (places bytes args (arg_names c.args)) (λ qs. unless RepeatedQubit (first_repeated [] qs (arg_names c.args)) (and_then (expressions bytes params c.params)
-            (λ es. Ok (record { gate = called_behind (length front) gate; params = es; args = qs })))))) (arity_behind defs gate (length c.params) (length c.args))
+          (λ es. Ok (record { gate = called_behind (length front) gate; params = es; args = qs })))))) (arity_behind defs gate (length c.params) (length c.args))
           ∙ named_by gate c.at (wrong_arity defs gate (length c.params) (length c.args)) (places bytes args (arg_names c.args)) (λ qs. first_repeated [] qs (arg_names c.args)) (expressions bytes params c.params)
 
       application : (params args : List (List ℕ)) (c : Call) → inner_of bytes (all_behind defs) bound_all params args c ≡ on_ok (inner_behind (length front)) (inner_of bytes defs bound params args c)
       application params args c =
           ap (λ r. and_then r (λ gate. refuse (wrong_arity (all_behind defs) gate (length c.params) (length c.args)) Arity c.at
-            (and_then (places bytes args (arg_names c.args)) (λ qs. unless RepeatedQubit (first_repeated [] qs (arg_names c.args)) (and_then (expressions bytes params c.params) (λ es. Ok (record { gate = gate; params = es; args = qs }))))))) (call_behind (length front) bytes bound c.gate c.at)
+          (and_then (places bytes args (arg_names c.args)) (λ qs. unless RepeatedQubit (first_repeated [] qs (arg_names c.args)) (and_then (expressions bytes params c.params) (λ es. Ok (record { gate = gate; params = es; args = qs }))))))) (call_behind (length front) bytes bound c.gate c.at)
           ∙ gate_named params args c (called bytes bound c.gate c.at)
 
       one_before : (r : Result Inner ReadFault) (s : Result (List Inner) ReadFault)
@@ -192,7 +192,7 @@ module _ (front : List Def) where
       def_made : (params args : List Span) (body : List Stated) → def_of bytes (all_behind defs) bound_all params args body ≡ on_ok (def_behind (length front)) (def_of bytes defs bound params args body)
       def_made params args body =
           ap (λ r. unless Redeclared (first_again bytes [] params) (unless Redeclared (first_again bytes [] args) (and_then r (λ is. Ok (record { params = length params; args = length args; size = body_size (all_behind defs) is; body = is })))))
-            (body_behind (names bytes params) (names bytes args) body)
+          (body_behind (names bytes params) (names bytes args) body)
           ∙ ap (λ r. unless Redeclared (first_again bytes [] params) (unless Redeclared (first_again bytes [] args) r)) (body_made params args (body_of bytes defs bound (names bytes params) (names bytes args) body))
           ∙ both (first_again bytes [] params) (first_again bytes [] args) (and_then (body_of bytes defs bound (names bytes params) (names bytes args) body) (λ is. Ok (record { params = length params; args = length args; size = body_size defs is; body = is })))
         where
@@ -210,9 +210,9 @@ module _ (front : List Def) where
     gate_behind g name d =
         let n : length (all_behind g.defs) ≡ length front + length g.defs = omega (arith, length-append front (map (def_behind (length front)) g.defs), length-map g.defs (def_behind (length front))) in
         let e : all_behind g.defs ++ (def_behind (length front) d ∷ []) ≡ all_behind (g.defs ++ d ∷ []) =
-              append_assoc front (map (def_behind (length front)) g.defs) (def_behind (length front) d ∷ []) ∙ ap (λ z. front ++ z) (sym (map-append (def_behind (length front)) g.defs (d ∷ []))) in
+        append_assoc front (map (def_behind (length front)) g.defs) (def_behind (length front) d ∷ []) ∙ ap (λ z. front ++ z) (sym (map-append (def_behind (length front)) g.defs (d ∷ []))) in
         let f : rebound (map (bound_behind (length front)) g.bound) (spelled bytes name) (length (all_behind g.defs)) ≡ map (bound_behind (length front)) (rebound g.bound (spelled bytes name) (length g.defs)) =
-              ap (rebound (map (bound_behind (length front)) g.bound) (spelled bytes name)) n ∙ rebound_behind (length front) g.bound (spelled bytes name) (length g.defs) in
+        ap (rebound (map (bound_behind (length front)) g.bound) (spelled bytes name)) n ∙ rebound_behind (length front) g.bound (spelled bytes name) (length g.defs) in
         ap (λ z. record { defs = z; bound = rebound (map (bound_behind (length front)) g.bound) (spelled bytes name) (length (all_behind g.defs)) }) e
         ∙ ap (λ z. record { defs = all_behind (g.defs ++ d ∷ []); bound = z }) f
 

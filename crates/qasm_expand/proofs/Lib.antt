@@ -4,6 +4,7 @@ pub mod Applied
 pub mod Expansions
 pub mod Expressions
 pub mod FaultPlaces
+pub mod FirstBytes
 pub mod Fitting
 pub mod GatesBehind
 pub mod Keeping

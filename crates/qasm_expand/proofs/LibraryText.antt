@@ -1,5 +1,5 @@
 -- The text of the library is read without a fault, and its gates are defined without one behind any others: computed.
-use Rattle.std.proofs.Common.{◌≡◌, ℕ, true, Option, Some, None, List, [], ◌++◌, append-nil, is_some, is_ok, Result, Ok, Err, refl, sym, ◌∙◌, ap, subst}
+use Rattle.std.proofs.Common.{◌≡◌, ℕ, true, Option, Some, None, List, [], append-nil, is_some, is_ok, Result, Ok, Err, refl, sym, ◌∙◌, ap, subst}
 use Rattle.qasm_lex.specs.declared.types.Token.{Token}
 use Rattle.qasm_lex.specs.Tokens.{Reads}
 use Rattle.qasm_lex.proofs.PlainTokens.{begun_by, between, step, closing, cut, cut_reads}
@@ -8,7 +8,7 @@ use Rattle.qasm_parse.specs.declared.program.Statement.{Statement}
 use Rattle.qasm_parse.specs.Phrases.{got}
 use Rattle.qasm_parse.specs.Sorts.{sorts_of}
 use Rattle.qasm_parse.specs.Formulas.{ids, id_count}
-use Rattle.qasm_parse.specs.Statements.{IsText, OfText}
+use Rattle.qasm_parse.specs.Statements.{IsText}
 use Rattle.qasm_parse.proofs.SameSort.{number_of, test_by}
 use Rattle.qasm_parse.proofs.Readers.{read_as, gives_reader, then_reader, after_reader, listed_next, listed_reader, enclosed_reader, tail_by, has_room, signed_by, power_by, group_by, atom_by, part_by, part_reader, numeral_by, op_reader, ops_reader, formula_reader, span_reader, bare_reader, formulas_reader, universal_reader, controlled_reader, named_reader, call_reader, inner_reader, body_next, body_reader, names_reader, gate_reader, program_next, program_reader, text_by, text_reader}
 use Rattle.qasm_parse.proofs.Readers as readers
@@ -89,10 +89,11 @@ gates_of (Err f) e = absurd (cc)
 library_gates : (front : List Def) → (g : Gates) × (all_defined library_text (record { defs = front; bound = [] }) library_statements ≡ Ok g)
 library_gates front =
     let none : Gates = record { defs = []; bound = [] } in
-    let p : (g : Gates) × (all_defined library_text none library_statements ≡ Ok g) = gates_of (all_defined library_text none library_statements) is_defined in
-    (gates_behind front p.0,
-    ap (λ z. all_defined library_text (record { defs = z; bound = [] }) library_statements) (sym (append-nil front))
-    ∙ all_defined_behind front library_text none library_statements ∙ ap (on_ok (gates_behind front)) p.1)
+    let p : (g : Gates) × (all_defined library_text none library_statements ≡ Ok g) = gates_of (all_defined library_text none library_statements) is_defined in (
+      gates_behind front p.0,
+      ap (λ z. all_defined library_text (record { defs = z; bound = [] }) library_statements) (sym (append-nil front))
+          ∙ all_defined_behind front library_text none library_statements ∙ ap (on_ok (gates_behind front)) p.1,
+    )
 
 pub library_faultless : IsFaultless library_text
 library_faultless = (library_statements, library_is, library_gates)
@@ -110,5 +111,6 @@ no_gate_fault front ss f h e =
   where
     same : ◌≡◌ {A = Result (List Statement) ReadFault} (Ok library_statements) (Ok ss) → library_statements ≡ ss
     same d = cc
+
     apart : (g : Gates) → ◌≡◌ {A = Result Gates ReadFault} (Ok g) (Err f) → ⊥
     apart g d = cc

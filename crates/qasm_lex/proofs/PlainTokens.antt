@@ -1,14 +1,14 @@
 -- Cutting a text of words, whole numbers, signs of one byte and white space into its tokens, byte by byte.
-use Rattle.std.proofs.Common.{◌≡◌, ℕ, ◌+◌, ◌-◌, ◌<◌, ◌≤◌, Bool, true, false, ◌&&◌, ◌||◌, nat_eq, inl, inr, Option, Some, None, List, [], ◌∷◌, length, drop, get_or, length-drop, Result, Ok, Err, arith, sym, ◌∙◌, ap, subst, refl}
+use Rattle.std.proofs.Common.{◌≡◌, ℕ, ◌+◌, ◌-◌, ◌<◌, ◌≤◌, Bool, true, false, ◌&&◌, ◌||◌, nat_eq, inl, inr, Option, Some, None, List, [], ◌∷◌, length, drop, get_or, length-drop, Ok, arith, sym, ◌∙◌, ap, subst, refl}
 use Rattle.std.specs.Prelude.{if◌then◌else◌}
 use Rattle.std.proofs.lemmas.Bool.Decides.{nat_tests}
-use Rattle.std.proofs.lemmas.Bool.{eqb-true}
+use Rattle.std.proofs.lemmas.Bool.{eqb-true, cases_lt}
 use Rattle.std.proofs.lemmas.List.{drop_more, get_or_past}
 use Rattle.qasm_lex.specs.declared.types.Kind.TheVariants.{Word as WordToken, Number, Sign}
 use Rattle.qasm_lex.specs.declared.types.Class.{Class}
 use Rattle.qasm_lex.specs.declared.types.Class.TheVariants.{Word, Digit}
 use Rattle.qasm_lex.specs.declared.types.Token.{Token}
-use Rattle.qasm_lex.specs.Tokens.{byte, is_in, is_digit_byte, is_letter_byte, is_word_byte, is_white_byte, is_sign_byte, is_tail_byte, is_exponent_byte, Run, WholeRun, NoGap, IsToken, Reads, finished, gap, token}
+use Rattle.qasm_lex.specs.Tokens.{byte, is_in, is_digit_byte, is_letter_byte, is_word_byte, is_white_byte, is_sign_byte, is_tail_byte, is_exponent_byte, Run, WholeRun, NoGap, IsLongest, IsToken, Reads, finished, gap, token}
 use Rattle.qasm_lex.proofs.Longest.{longest_word, longest_number, longest_sign, mantissa_whole, mantissa_point, exponent_none}
 
 -- between tokens, in a word or a number from a place on, in one with a point at a place, or behind a sign with its byte;
@@ -107,7 +107,7 @@ module _ (bytes : List ℕ) where
   one_more class a i lt r h = record {
     ordered = let o = r.ordered in omega arith;
     within = omega arith;
-    each = λ k le l. elim (Rattle.std.proofs.lemmas.Bool.cases_lt k i) [ inl less ↦ r.each k le less | inr more ↦ (let e : i ≡ k = omega arith in ap (λ j. is_in class (byte bytes j)) (sym e) ∙ h) ];
+    each = λ k le l. elim (cases_lt k i) [ inl less ↦ r.each k le less | inr more ↦ (let e : i ≡ k = omega arith in ap (λ j. is_in class (byte bytes j)) (sym e) ∙ h) ];
   }
 
   none_yet : (class : Class) (a : ℕ) → a ≤ length bytes → Run class bytes a a
@@ -123,32 +123,38 @@ module _ (bytes : List ℕ) where
   number_token : (a i : ℕ) → Known bytes (in_number a) i → is_tail_byte (byte bytes i) ≡ false → IsToken bytes Number a i
   unfolding is_in
   number_token a i (lt, r) h =
-      let w = r.within in let n = no_tail (byte bytes i) h in let p = digit_opens (byte bytes a) (r.each a (omega arith) lt) in
-      (record { inside = omega arith; white = p.0; comment = λ e d. p.1 e },
-      longest_number bytes a i i (mantissa_whole bytes a i lt (record { run = r; ends = λ l. n.0 }) n.1) (exponent_none bytes i w n.2), h)
+      let w = r.within in let n = no_tail (byte bytes i) h in let p = digit_opens (byte bytes a) (r.each a (omega arith) lt) in (
+        record { inside = omega arith; white = p.0; comment = λ e d. p.1 e },
+        longest_number bytes a i i (mantissa_whole bytes a i lt (record { run = r; ends = λ l. n.0 }) n.1) (exponent_none bytes i w n.2),
+        h,
+      )
 
   decimal_token : (a p i : ℕ) → Known bytes (in_decimal a p) i → is_tail_byte (byte bytes i) ≡ false → IsToken bytes Number a i
   unfolding is_in
   decimal_token a p i (lt, v, e, r) h =
-      let w = v.run.within in let n = no_tail (byte bytes i) h in let q = digit_opens (byte bytes a) (v.run.each a (omega arith) lt) in
-      (record { inside = omega arith; white = q.0; comment = λ e d. q.1 e },
-      longest_number bytes a i i (mantissa_point bytes a p i lt v e (record { run = r; ends = λ l. n.0 })) (exponent_none bytes i r.within n.2), h)
+      let w = v.run.within in let n = no_tail (byte bytes i) h in let q = digit_opens (byte bytes a) (v.run.each a (omega arith) lt) in (
+        record { inside = omega arith; white = q.0; comment = λ e d. q.1 e },
+        longest_number bytes a i i (mantissa_point bytes a p i lt v e (record { run = r; ends = λ l. n.0 })) (exponent_none bytes i r.within n.2),
+        h,
+      )
 
   sign_token : (a c i : ℕ) → Known bytes (on_sign a c) i → joins c (byte bytes i) ≡ false → IsToken bytes Sign a i
   sign_token a c i (e, d, s, lt) h =
       let p = sign_opens c s in let n = not_joined c (byte bytes i) h in
       let next : byte bytes (a + 1) ≡ byte bytes i = ap (byte bytes) (sym e) in
-      let is : is_sign_byte (byte bytes a) ≡ true = ap is_sign_byte (sym d) ∙ s in
-      (record { inside = lt; white = ap is_white_byte (sym d) ∙ p.0; comment = λ x y. n.1 (d ∙ x) (sym next ∙ y) },
-      subst (λ z. Rattle.qasm_lex.specs.Tokens.IsLongest bytes Sign a z) (sym e) (longest_sign bytes a is (λ x y. n.0 (sym next ∙ y)) (λ x y. p.1 (d ∙ x))), tt)
+      let is : is_sign_byte (byte bytes a) ≡ true = ap is_sign_byte (sym d) ∙ s in (
+        record { inside = lt; white = ap is_white_byte (sym d) ∙ p.0; comment = λ x y. n.1 (d ∙ x) (sym next ∙ y) },
+        subst (λ z. IsLongest bytes Sign a z) (sym e) (longest_sign bytes a is (λ x y. n.0 (sym next ∙ y)) (λ x y. p.1 (d ∙ x))),
+        tt,
+      )
 
   -- ---- byte by byte
   -- with these tokens from the one that is open on, the text is read
   abbrev Follows : Mode → ℕ → List Token → Type 0
   Follows m i us = (m ≡ lost → ⊥) × (Known bytes m i → Reads bytes (start m i) (Ok us))
 
-  same : (r : Mode) (a : ℕ) (us ts : List Token) → Some us ≡ Some ts → Reads bytes a (Ok us) → Reads bytes a (Ok ts)
-  same r a us ts e h = let d : us ≡ ts = cc in subst (λ z. Reads bytes a (Ok z)) d h
+  same : (a : ℕ) (us ts : List Token) → Some us ≡ Some ts → Reads bytes a (Ok us) → Reads bytes a (Ok ts)
+  same a us ts e h = let d : us ≡ ts = cc in subst (λ z. Reads bytes a (Ok z)) d h
 
   module _ (i b : ℕ) (lt : i < length bytes) (is : byte bytes i ≡ b) (us : List Token) where
     begins : (w l d s : Bool) → is_white_byte b ≡ w → is_letter_byte b ≡ l → is_digit_byte b ≡ d → is_sign_byte b ≡ s → Follows (begun_by i b w l d s) (i + 1) us → Reads bytes i (Ok us)
@@ -166,33 +172,33 @@ module _ (bytes : List ℕ) where
       in_a_word : (a : ℕ) (t : Bool) → is_word_byte b ≡ t → Known bytes (in_word a) i → Follows (if t then in_word a else begun i b) (i + 1) us
           → (if t then Some us else Some (record { kind = WordToken; from = a; to = i } ∷ us)) ≡ Some ts → Reads bytes a (Ok ts)
       unfolding is_in
-      in_a_word a true h (l, r) f e = same lost a us ts e (f.1 (l, one_more Word (a + 1) i lt r (ap is_word_byte is ∙ h)))
-      in_a_word a false h k f e = same lost a (record { kind = WordToken; from = a; to = i } ∷ us) ts e (token {r = Ok us} (word_token a i k (ap is_word_byte is ∙ h)) (fresh f))
+      in_a_word a true h (l, r) f e = same a us ts e (f.1 (l, one_more Word (a + 1) i lt r (ap is_word_byte is ∙ h)))
+      in_a_word a false h k f e = same a (record { kind = WordToken; from = a; to = i } ∷ us) ts e (token {r = Ok us} (word_token a i k (ap is_word_byte is ∙ h)) (fresh f))
 
       in_a_decimal : (a p : ℕ) (t z : Bool) → is_digit_byte b ≡ t → is_tail_byte b ≡ z → Known bytes (in_decimal a p) i → Follows (if t then in_decimal a p else if z then lost else begun i b) (i + 1) us
           → (if t then Some us else Some (record { kind = Number; from = a; to = i } ∷ us)) ≡ Some ts → Reads bytes a (Ok ts)
       unfolding is_in
-      in_a_decimal a p true z h g (l, v, d, r) f e = same lost a us ts e (f.1 (l, v, d, one_more Digit (p + 1) i lt r (ap is_digit_byte is ∙ h)))
+      in_a_decimal a p true z h g (l, v, d, r) f e = same a us ts e (f.1 (l, v, d, one_more Digit (p + 1) i lt r (ap is_digit_byte is ∙ h)))
       in_a_decimal a p false true h g k f e = absurd (f.0 refl)
-      in_a_decimal a p false false h g k f e = same lost a (record { kind = Number; from = a; to = i } ∷ us) ts e (token {r = Ok us} (decimal_token a p i k (ap is_tail_byte is ∙ g)) (fresh f))
+      in_a_decimal a p false false h g k f e = same a (record { kind = Number; from = a; to = i } ∷ us) ts e (token {r = Ok us} (decimal_token a p i k (ap is_tail_byte is ∙ g)) (fresh f))
 
       in_a_number : (a : ℕ) (t y z : Bool) → is_digit_byte b ≡ t → nat_eq b 46 ≡ y → is_tail_byte b ≡ z → Known bytes (in_number a) i
           → Follows (if t then in_number a else if y then in_decimal a i else if z then lost else begun i b) (i + 1) us
           → (if t then Some us else if y then Some us else Some (record { kind = Number; from = a; to = i } ∷ us)) ≡ Some ts → Reads bytes a (Ok ts)
       unfolding is_in
-      in_a_number a true y z h q g (l, r) f e = same lost a us ts e (f.1 (omega arith, one_more Digit a i lt r (ap is_digit_byte is ∙ h)))
-      in_a_number a false true z h q g (l, r) f e = same lost a us ts e (f.1 (l, record { run = r; ends = λ x. ap is_digit_byte is ∙ h }, is ∙ eqb-true b 46 q, none_yet Digit (i + 1) (omega arith)))
+      in_a_number a true y z h q g (l, r) f e = same a us ts e (f.1 (omega arith, one_more Digit a i lt r (ap is_digit_byte is ∙ h)))
+      in_a_number a false true z h q g (l, r) f e = same a us ts e (f.1 (l, record { run = r; ends = λ x. ap is_digit_byte is ∙ h }, is ∙ eqb-true b 46 q, none_yet Digit (i + 1) (omega arith)))
       in_a_number a false false true h q g k f e = absurd (f.0 refl)
-      in_a_number a false false false h q g k f e = same lost a (record { kind = Number; from = a; to = i } ∷ us) ts e (token {r = Ok us} (number_token a i k (ap is_tail_byte is ∙ g)) (fresh f))
+      in_a_number a false false false h q g k f e = same a (record { kind = Number; from = a; to = i } ∷ us) ts e (token {r = Ok us} (number_token a i k (ap is_tail_byte is ∙ g)) (fresh f))
 
       at_a_sign : (a c : ℕ) (t : Bool) → joins c b ≡ t → Known bytes (on_sign a c) i → Follows (if t then lost else begun i b) (i + 1) us
           → Some (record { kind = Sign; from = a; to = i } ∷ us) ≡ Some ts → Reads bytes a (Ok ts)
       at_a_sign a c true h k f e = absurd (f.0 refl)
-      at_a_sign a c false h k f e = same lost a (record { kind = Sign; from = a; to = i } ∷ us) ts e (token {r = Ok us} (sign_token a c i k (ap (joins c) is ∙ h)) (fresh f))
+      at_a_sign a c false h k f e = same a (record { kind = Sign; from = a; to = i } ∷ us) ts e (token {r = Ok us} (sign_token a c i k (ap (joins c) is ∙ h)) (fresh f))
 
       one_byte : (m : Mode) → Known bytes m i → Follows (step m i b) (i + 1) us → closing m i b (Some us) ≡ Some ts → Reads bytes (start m i) (Ok ts)
       unfolding step closing
-      one_byte between k f e = same lost i us ts e (fresh f)
+      one_byte between k f e = same i us ts e (fresh f)
       one_byte (in_word a) k f e = in_a_word a (is_word_byte b) refl k f e
       one_byte (in_number a) k f e = in_a_number a (is_digit_byte b) (nat_eq b 46) (is_tail_byte b) refl refl refl k f e
       one_byte (in_decimal a p) k f e = in_a_decimal a p (is_digit_byte b) (is_tail_byte b) refl refl k f e
@@ -207,12 +213,13 @@ module _ (bytes : List ℕ) where
   the_end m i ts e k d = by m k d where
     zero_there : byte bytes i ≡ 0
     zero_there = get_or_past bytes i 0 (omega arith)
+
     by : (m : Mode) → Known bytes m i → closing m i 0 (Some []) ≡ Some ts → Reads bytes (start m i) (Ok ts)
-    by between k d = same lost i [] ts d (finished e)
-    by (in_word a) k d = same lost a _ ts d (token {r = Ok []} (word_token a i k (ap is_word_byte zero_there)) (finished e))
-    by (in_number a) k d = same lost a _ ts d (token {r = Ok []} (number_token a i k (ap is_tail_byte zero_there)) (finished e))
-    by (in_decimal a p) k d = same lost a _ ts d (token {r = Ok []} (decimal_token a p i k (ap is_tail_byte zero_there)) (finished e))
-    by (on_sign a c) k d = same lost a _ ts d (token {r = Ok []} (sign_token a c i k (ap (joins c) zero_there ∙ sign_ends c)) (finished e))
+    by between k d = same i [] ts d (finished e)
+    by (in_word a) k d = same a _ ts d (token {r = Ok []} (word_token a i k (ap is_word_byte zero_there)) (finished e))
+    by (in_number a) k d = same a _ ts d (token {r = Ok []} (number_token a i k (ap is_tail_byte zero_there)) (finished e))
+    by (in_decimal a p) k d = same a _ ts d (token {r = Ok []} (decimal_token a p i k (ap is_tail_byte zero_there)) (finished e))
+    by (on_sign a c) k d = same a _ ts d (token {r = Ok []} (sign_token a c i k (ap (joins c) zero_there ∙ sign_ends c)) (finished e))
     by lost k d = absurd (cc)
 
   left : (m : Mode) (i b : ℕ) (ts : List Token) (o : Option (List Token)) (R : Type 0) → closing m i b o ≡ Some ts → ((us : List Token) → o ≡ Some us → closing m i b (Some us) ≡ Some ts → R) → R

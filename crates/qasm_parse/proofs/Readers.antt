@@ -1,11 +1,11 @@
 -- Readers of the part of the grammar that the library is written in: each gives what is read from a place on, with its proof,
 -- or nothing.
-use Rattle.std.proofs.Common.{◌≡◌, ◌≢◌, ℕ, zero, suc, ◌+◌, ◌-◌, ◌<◌, Bool, true, false, ◌⊎◌, inl, inr, Option, Some, None, List, [], ◌∷◌, ◌++◌, ap, subst, sym, refl, arith}
+use Rattle.std.proofs.Common.{◌≡◌, ℕ, zero, suc, ◌+◌, ◌-◌, ◌<◌, Bool, true, false, inl, inr, Option, Some, None, List, [], ◌∷◌, ◌++◌, subst, sym, refl, arith}
 use Rattle.std.specs.Prelude.{ℤ, pos, codes, bytes_eq}
 use Rattle.std.proofs.lemmas.Slice.Eq.{bytes_eq-Decides}
 use Rattle.qasm_lex.specs.declared.types.Token.{Token}
 use Rattle.qasm_angle.specs.declared.types.Op.{Op}
-use Rattle.qasm_angle.specs.declared.types.Op.TheVariants.{Number as NumberOp, Pi as PiOp, Id as IdOp, Neg as NegOp, Add as AddOp, Sub as SubOp, Mul as MulOp, Div as DivOp, Pow as PowOp, Func as FuncOp}
+use Rattle.qasm_angle.specs.declared.types.Op.TheVariants.{Number as NumberOp, Pi as PiOp, Id as IdOp, Neg as NegOp, Add as AddOp, Sub as SubOp, Mul as MulOp, Div as DivOp, Pow as PowOp}
 use Rattle.qasm_parse.specs.declared.sort.Sort.{Sort}
 use Rattle.qasm_parse.specs.declared.sort.Sort.TheVariants.{End, OpenQasm, Gate as GateWord, Universal, Cx as CxWord, Id, Semicolon, Comma, Open, Close, OpenBrace, CloseBrace, Minus, Power}
 use Rattle.qasm_parse.specs.declared.sort.Mark.{Mark}
@@ -28,7 +28,7 @@ use Rattle.qasm_parse.specs.Sorts.{is_version}
 use Rattle.qasm_parse.specs.Numbers.{IsNumeral, none, some}
 use Rattle.qasm_parse.specs.Phrases.{Got, got, Gives, After, after, Then, then, Listed, final, next, Enclosed, absent, empty, full, span_of, IsSpan, there, IsArg, bare}
 use Rattle.qasm_parse.specs.Formulas.{IsFormula, formula, OpIs, number_is, id_is, pi_is, neg_is, add_is, sub_is, mul_is, div_is, pow_is, OpsAre, no_op, one_op, ids, id_count, text_at}
-use Rattle.qasm_parse.specs.Statements.{IsCall, universal, controlled, applied, IsInner, applies, IsBody, closed, inner, IsDeclaration, defines, IsStatement, declares, IsProgram, over, statement, IsText, text}
+use Rattle.qasm_parse.specs.Statements.{IsCall, universal, controlled, applied, IsInner, applies, IsBody, closed, inner, defines, IsStatement, declares, IsProgram, over, statement, IsText, text}
 use Rattle.qasm_parse.proofs.SameSort.{is_sort}
 
 -- what is read from a place on, and the place behind it
