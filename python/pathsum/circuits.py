@@ -9,7 +9,7 @@ from typing import Any, Callable, Optional, Tuple
 
 from .answers import Qubit
 from .errors import UnreadableError, UsageError
-from .reading import Register, Text, registers_of
+from .reading import Register, registers_of
 
 MARK = b"===="
 LONGEST = 16_777_216
@@ -41,11 +41,6 @@ class Circuit:
         """The qubits of an accepted text, in the order in which the program numbers them."""
         return tuple(Qubit(register.name, at) for register in self.registers for at in range(register.size))
 
-    @cached_property
-    def text(self) -> Text:
-        """The text cut into statements, which takes a second for a million bytes or so."""
-        return Text(self.data)
-
     @property
     def joined(self) -> bytes:
         """The text as the program gets it: its last line ended, and without a line that would separate. Such a line is
@@ -75,11 +70,11 @@ def decoded(data: bytes) -> bytes:
 
 
 def read_file(path: "os.PathLike[str] | str", what: str = "a circuit") -> bytes:
-    """The bytes of a file."""
+    """The bytes of a file; of one that is longer than the program reads, enough to tell that."""
     name = os.fspath(path)
     try:
         with open(name, "rb") as file:
-            return file.read()
+            return file.read(4 * LONGEST)
     except IsADirectoryError:
         raise UnreadableError(f"{name} is a directory, and {what} is a file") from None
     except FileNotFoundError:

@@ -74,8 +74,9 @@ def _of_no(answer: No) -> List[str]:
     if answer.behind:
         return [
             f"no {answer.input.bits} behind {answer.behind}",
-            f"The two circuits differ. Behind the first {answer.behind} items of both, the rest differs at the basis state "
-            f"{_each(answer.input)}; which input of the whole leads there was not asked.",
+            f"The two circuits differ: behind the first {answer.behind} items of both, at the basis state {_each(answer.input)}. "
+            "There is an input of the whole at which they differ, and it was not found.",
+            *([] if answer.phase is None else [_up_to(answer.phase)]),
         ]
     head = f"no {answer.input.bits}"
     if answer.question == "phase":
@@ -151,25 +152,33 @@ def _told(remaining: RemainingSum, full: bool) -> str:
 
 
 def _of_sum(remaining: RemainingSum) -> List[str]:
-    lines = [
-        f"What is left is a sum over m={remaining.variables} path variables y0, y1, .. that are 0 or 1, divided by the root "
-        f"of 2 to the k={remaining.scale}; P is the phase of each summand in turns, in {remaining.terms:,} "
-        f"{'term' if remaining.terms == 1 else 'terms'} of inputs x and path variables y; f=- says that no output is left.",
-    ]
+    terms = f"{remaining.terms:,} {'term' if remaining.terms == 1 else 'terms'}"
+    if remaining.variables:
+        what = (
+            f"What is left is a sum over m={remaining.variables} path variables y0, y1, .. that are 0 or 1, divided by the root "
+            f"of 2 to the k={remaining.scale}; P is the phase of each summand in turns, in {terms} of inputs x and path "
+            "variables y; f=- says that no output is left."
+        )
+    else:
+        what = (
+            f"What is left is a phase P in turns, in {terms} of inputs x, divided by the root of 2 to the k={remaining.scale}, "
+            "with no path variable (m=0) and no output (f=-)."
+        )
     if len(remaining.text) > SHORT:
-        lines.append(f"It is {len(remaining.text):,} bytes long; --full prints it whole.")
-    return lines
+        return [what, f"It is {len(remaining.text):,} bytes long; --full prints it whole."]
+    return [what]
 
 
 def _span(lines: Tuple[int, int]) -> str:
     first, last = lines
     if last < first:
-        return f"nothing before line {first}"
+        return "nothing"
     return f"line {first}" if first == last else f"lines {first} to {last}"
 
 
 def _of_shared(answer: Answer, shared: Shared) -> str:
+    how = ", once gates on different qubits are exchanged" if shared.exchanged else ""
     return (
-        f"Alike are the first {shared.front} and the last {shared.back} items; between them {answer.first} has "
-        f"{_span(shared.first_lines)}, and {answer.second} {_span(shared.second_lines)}."
+        f"Alike are {shared.front} items in front and {shared.back} behind{how}; what is left is {_span(shared.first_lines)} of "
+        f"{answer.first}, and {_span(shared.second_lines)} of {answer.second}."
     )
