@@ -42,9 +42,11 @@ impl Bell {
 
     /// Waits until the bell is closed, which is true, or was rung more than `count` times, which is false.
     pub fn wait_past<R: Wait>(&self, rt: &R, count: u64) -> bool {
-        let rung = self
-            .changed
-            .wait_while(rt, self.rung.lock(rt), |rung| rung.count <= count && !rung.closed);
+        let rung = self.changed.wait_while(
+            rt,
+            self.rung.lock(rt),
+            |rung| rung.count <= count && !rung.closed,
+        );
         rung.closed
     }
 

@@ -1,0 +1,96 @@
+-- Lines, and blocks of lines.
+use Rattle.std.proofs.Common.{◌≡◌, ◌≢◌, ℕ, zero, suc, ◌+◌, ◌-◌, ◌<◌, ◌≤◌, ◌==◌, Bool, true, false, cond, List, [], ◌∷◌, ◌++◌, length, take, drop, codes, refl, sym, ap, ◌∙◌, subst, arith, append_assoc, length-append, take-append-drop, length-drop}
+use Rattle.std.specs.List.{before_first, after_first, position_or_len}
+use Rattle.std.proofs.lemmas.List.{append_cancel_left}
+use Rattle.ps_script.specs.Lines.{is_feed, line_of, rest_of, HasBlock, HasNoBlock}
+use Rattle.ps_script.specs.Lines.HasBlock as block
+use Rattle.ps_script.specs.Lines.HasNoBlock as none
+
+-- ---- there is one block, or none
+not_empty : (bytes : List ℕ) → bytes ≢ [] → bytes ≡ [] → ⊥
+not_empty bytes n e = n e
+
+pub record SameBlock (b c : List ℕ) (n m : ℕ) (r s : List ℕ) : Type 0 where
+  pub text : b ≡ c
+  pub lines : n ≡ m
+  pub rest : r ≡ s
+
+front_same : (xs ys zs : List ℕ) → xs ++ zs ≡ ys ++ zs → xs ≡ ys
+front_same xs ys zs e = by_length xs ys (let l = ap length e in omega (arith, l, length-append xs zs, length-append ys zs)) e
+  where
+    by_length : (xs ys : List ℕ) → length xs ≡ length ys → xs ++ zs ≡ ys ++ zs → xs ≡ ys
+    by_length [] [] l e = refl
+    by_length [] (y ∷ ys) l e = absurd (omega arith)
+    by_length (x ∷ xs) [] l e = absurd (omega arith)
+    by_length (x ∷ xs) (y ∷ ys) l e =
+        let head : x ≡ y = cc in
+        let tail : xs ++ zs ≡ ys ++ zs = cc in
+        ap (λ z. z ∷ xs) head ∙ ap (λ (l : List ℕ). y ∷ l) (by_length xs ys (omega arith) tail)
+
+pub block_once : (bytes b c : List ℕ) (n m : ℕ) (r s : List ℕ) → HasBlock bytes b n r → HasBlock bytes c m s → SameBlock b c n m r s
+block_once bytes b c n m r s (block.ends f l e k g) (block.ends f' l' e' k' g') = record { text = e ∙ sym e'; lines = k ∙ sym k'; rest = g ∙ sym g' }
+block_once bytes b c n m r s (block.ends f l e k g) (block.goes_on f' l' p' h' e' k') = absurd (l' l)
+block_once bytes b c n m r s (block.goes_on f l p h e k) (block.ends f' l' e' k' g') = absurd (l l')
+block_once bytes b c n m r s (block.goes_on {front} {more} {n = i} f l p h e k) (block.goes_on {front = front'} {more = more'} {n = j} f' l' p' h' e' k') =
+    let t = block_once (rest_of bytes) more more' i j r s h h' in
+    let same : front ≡ front' = front_same front front' (rest_of bytes) (sym p ∙ p') in
+    record {
+      text = e ∙ (ap (λ x. x ++ more) same ∙ (ap (λ x. front' ++ x) t.text ∙ sym e'));
+      lines = k ∙ (ap (λ x. x + 1) t.lines ∙ sym k');
+      rest = t.rest;
+    }
+
+pub block_or_none : (bytes b : List ℕ) (n : ℕ) (r : List ℕ) → HasBlock bytes b n r → HasNoBlock bytes → ⊥
+block_or_none bytes b n r (block.ends f l e k g) (none.over z) = f z
+block_or_none bytes b n r (block.ends f l e k g) (none.goes_on f' l' h') = l' l
+block_or_none bytes b n r (block.goes_on f l p h e k) (none.over z) = f z
+block_or_none bytes b n r (block.goes_on {more} {n = i} f l p h e k) (none.goes_on f' l' h') = block_or_none (rest_of bytes) more i r h h'
+
+-- ---- looking for the line `.`: what was passed, and what is still to be looked at
+pub record Passed (bytes : List ℕ) (lines : ℕ) (rest : List ℕ) : Type 0 where
+  pub front : List ℕ
+  pub parted : bytes ≡ front ++ rest
+  pub count : lines ≤ length front
+  pub found : (text : List ℕ) (n : ℕ) (after : List ℕ) → HasBlock rest text n after → HasBlock bytes (front ++ text) (lines + n) after
+  pub missing : HasNoBlock rest → HasNoBlock bytes
+
+pub passed_none : (bytes : List ℕ) → Passed bytes 0 bytes
+passed_none bytes = record { front = []; parted = refl; count = omega arith; found = λ text n after h. h; missing = λ h. h }
+
+-- The first line and its end, in front of what stands behind it.
+pub rest_parted : (bytes : List ℕ) → (front : List ℕ) × (bytes ≡ front ++ rest_of bytes)
+unfolding rest_of
+rest_parted bytes = (take (position_or_len is_feed bytes + 1) bytes, sym (take-append-drop (position_or_len is_feed bytes + 1) bytes))
+
+pub passed_more : (bytes : List ℕ) (lines : ℕ) (rest next : List ℕ) → Passed bytes lines rest → rest ≢ [] → line_of rest ≢ codes "." → next ≡ rest_of rest
+    → length next < length rest → Passed bytes (lines + 1) next
+passed_more bytes lines rest next p some other e less =
+    let q = rest_parted rest in
+    let len = ap length q.1 ∙ length-append q.0 (rest_of rest) in
+    let len' = ap length e in
+    let P : List ℕ → Type 0 = λ x. Passed bytes (lines + 1) x in
+    subst P (sym e) (record {
+      front = p.front ++ q.0;
+      parted = p.parted ∙ (ap (λ x. p.front ++ x) q.1 ∙ sym (append_assoc p.front q.0 (rest_of rest)));
+      count = let c = p.count in omega (arith, length-append p.front q.0);
+      found = λ text n after h.
+          let one = p.found (q.0 ++ text) (n + 1) after (block.goes_on some other q.1 h refl refl) in
+          let count : lines + (n + 1) ≡ lines + 1 + n = omega arith in
+          subst (λ k. HasBlock bytes ((p.front ++ q.0) ++ text) k after) count (subst (λ x. HasBlock bytes x (lines + (n + 1)) after) (sym (append_assoc p.front q.0 text)) one);
+      missing = λ h. p.missing (none.goes_on some other h);
+    })
+
+-- The block that ends at this line.
+pub block_found : (bytes : List ℕ) (lines : ℕ) (rest text next : List ℕ) → Passed bytes lines rest → rest ≢ [] → line_of rest ≡ codes "." → next ≡ rest_of rest
+    → bytes ≡ text ++ rest → HasBlock bytes text (lines + 1) next
+block_found bytes lines rest text next p some is e parted =
+    let h = p.found [] 1 next (block.ends some is refl refl e) in
+    let same : p.front ++ [] ≡ text = Rattle.std.proofs.Common.append-nil p.front ∙ front_same p.front text rest (sym p.parted ∙ parted) in
+    subst (λ x. HasBlock bytes x (lines + 1) next) same h
+
+pub front_taken : (bytes front rest : List ℕ) (n : ℕ) → bytes ≡ front ++ rest → n + length rest ≡ length bytes → bytes ≡ take n bytes ++ rest
+front_taken bytes front rest n e l =
+    let k = ap length e ∙ length-append front rest in
+    let m : n ≡ length front = omega arith in
+    let seam : take n bytes ≡ front = ap (λ i. take i bytes) m ∙ (ap (take (length front)) e ∙ Rattle.std.proofs.Math.Seq.take-append_seam front rest) in
+    e ∙ ap (λ x. x ++ rest) (sym seam)

@@ -1,0 +1,213 @@
+-- Parts of command lines, from the words of their bytes.
+use Rattle.std.proofs.Common.{◌≡◌, ◌≢◌, ℕ, ◌+◌, ◌*◌, ◌^◌, ◌<◌, true, false, List, [], ◌∷◌, codes, decimal, refl, sym, ap, ◌∙◌, subst, arith}
+use Rattle.ps_script.specs.declared.name.Place.{Place}
+use Rattle.ps_script.specs.declared.order.Order.{Order}
+use Rattle.ps_script.specs.declared.order.Order.TheVariants.{Open, Splice, Retire, Ask, AskPhase, Prove, Sum, Show}
+use Rattle.ps_script.specs.Names.{is_name}
+use Rattle.ps_script.specs.Words.{words, SpellsNumber, NoNumber}
+use Rattle.ps_script.specs.Orders.{place_words, pair_words, IsPlace, IsOrder, verb_of, argument_words, Spells, SpellsNone}
+use Rattle.ps_script.specs.Arguments.{SpellsPlace, NoPlace, SpellsPair, NoPair, SpellsPhase, NoPhase, SpellsSpan, NoSpan, HasArguments, HasNone, SpellsOrder, NoOrder}
+use Rattle.ps_script.proofs.WordLemmas.{alone, name_word, number_word, number_alone}
+
+first_same : {x y : List ℕ} {xs ys : List (List ℕ)} → x ∷ xs ≡ y ∷ ys → x ≡ y
+first_same e = cc
+
+rest_same : {x y : List ℕ} {xs ys : List (List ℕ)} → x ∷ xs ≡ y ∷ ys → xs ≡ ys
+rest_same e = cc
+
+no_rest : {x y z : List ℕ} {zs : List (List ℕ)} → x ∷ [] ≡ y ∷ z ∷ zs → ⊥
+no_rest e = cc
+
+not_name : (a b : List ℕ) → is_name a ≡ false → a ≡ b → is_name b ≡ true → ⊥
+not_name a b f e t = let z : true ≡ false = sym t ∙ (ap is_name (sym e) ∙ f) in cc
+
+-- The name and the number of a place are told apart by the first space.
+module _ (bytes first rest : List ℕ) (cut : words bytes ≡ first ∷ words rest) where
+  -- a name that is none
+  pub no_named : (n : List ℕ) (ws : List (List ℕ)) → is_name first ≡ false → words bytes ≡ n ∷ ws → is_name n ≡ true → ⊥
+  no_named n ws f e t = not_name first n f (first_same (sym cut ∙ e)) t
+
+  pub behind_first : (x : List ℕ) (ws : List (List ℕ)) → words bytes ≡ x ∷ ws → words rest ≡ ws
+  behind_first x ws e = rest_same (sym cut ∙ e)
+
+  pub first_is : (x : List ℕ) (ws : List (List ℕ)) → words bytes ≡ x ∷ ws → first ≡ x
+  first_is x ws e = first_same (sym cut ∙ e)
+
+  -- a number that is none
+  pub no_numbered : (v : ℕ) (ws : List (List ℕ)) → NoNumber first → words bytes ≡ decimal v ∷ ws → v < 2 ^ 32 → ⊥
+  no_numbered v ws none e below = none v below (sym (first_is (decimal v) ws e))
+
+  -- ---- places
+  pub place_is : (p : Place) → is_name p.name ≡ true → p.name ≡ first → SpellsNumber rest p.version → SpellsPlace bytes p
+  place_is p name e s = record {
+    spelled = cut ∙ (ap (λ x. x ∷ words rest) (sym e) ∙ ap (λ ws. p.name ∷ ws) (number_word rest p.version s));
+    formed = record { name = name; below = s.below };
+  }
+
+  pub place_unnamed : is_name first ≡ false → NoPlace bytes
+  place_unnamed f p s = no_named p.name (decimal p.version ∷ []) f s.spelled s.formed.name
+
+  pub place_unnumbered : NoNumber rest → NoPlace bytes
+  place_unnumbered none p s = number_alone rest p.version s.formed.below none (behind_first p.name (decimal p.version ∷ []) s.spelled)
+
+  -- ---- two numbers
+  pub span_is : (f t : ℕ) → SpellsNumber first f → SpellsNumber rest t → SpellsSpan bytes f t
+  span_is f t a b = record {
+    spelled = cut ∙ (ap (λ x. x ∷ words rest) (sym a.spelled) ∙ ap (λ ws. decimal f ∷ ws) (number_word rest t b));
+    first = a.below;
+    second = b.below;
+  }
+
+  pub span_first_none : NoNumber first → NoSpan bytes
+  span_first_none none f t s = no_numbered f (decimal t ∷ []) none s.spelled s.first
+
+  pub span_second_none : NoNumber rest → NoSpan bytes
+  span_second_none none f t s = number_alone rest t s.second none (behind_first (decimal f) (decimal t ∷ []) s.spelled)
+
+  -- ---- two places
+  pub pair_unnamed : is_name first ≡ false → NoPair bytes
+  pair_unnamed f p q s = no_named p.name _ f s.spelled s.first.name
+
+  pub pair_ends : words rest ≡ rest ∷ [] → NoPair bytes
+  pair_ends e p q s = no_rest (sym e ∙ behind_first p.name (decimal p.version ∷ place_words q) s.spelled)
+
+  module _ (second more : List ℕ) (cut' : words rest ≡ second ∷ words more) where
+    pub pair_is : (p q : Place) → is_name p.name ≡ true → p.name ≡ first → SpellsNumber second p.version → SpellsPlace more q → SpellsPair bytes p q
+    pair_is p q name e s k = record {
+      spelled = cut ∙ (ap (λ x. x ∷ words rest) (sym e) ∙ ap (λ ws. p.name ∷ ws) (cut' ∙ (ap (λ x. x ∷ words more) (sym s.spelled) ∙ ap (λ ws. decimal p.version ∷ ws) k.spelled)));
+      first = record { name = name; below = s.below };
+      second = k.formed;
+    }
+
+    inner : (p q : Place) → SpellsPair bytes p q → words rest ≡ decimal p.version ∷ place_words q
+    inner p q s = behind_first p.name (decimal p.version ∷ place_words q) s.spelled
+
+    pub pair_unnumbered : NoNumber second → NoPair bytes
+    pair_unnumbered none p q s = none p.version s.first.below (sym (first_same (sym cut' ∙ inner p q s)))
+
+    pub pair_unplaced : NoPlace more → NoPair bytes
+    pair_unplaced none p q s = none q (record { spelled = rest_same (sym cut' ∙ inner p q s); formed = s.second })
+
+pub place_ends : (bytes : List ℕ) → words bytes ≡ bytes ∷ [] → NoPlace bytes
+place_ends bytes e p s = no_rest (sym e ∙ s.spelled)
+
+pub span_ends : (bytes : List ℕ) → words bytes ≡ bytes ∷ [] → NoSpan bytes
+span_ends bytes e f t s = no_rest (sym e ∙ s.spelled)
+
+pub pair_is_cut : (bytes : List ℕ) → words bytes ≡ bytes ∷ [] → NoPair bytes
+pair_is_cut bytes e p q s = no_rest (sym e ∙ s.spelled)
+
+pub phase_ends : (bytes : List ℕ) → words bytes ≡ bytes ∷ [] → NoPhase bytes
+phase_ends bytes e p q s = no_rest (sym e ∙ s.spelled)
+
+pub phase_other : (bytes first rest : List ℕ) → words bytes ≡ first ∷ words rest → first ≢ codes "phase" → NoPhase bytes
+phase_other bytes first rest cut other p q s = other (first_is bytes first rest cut (codes "phase") (pair_words p q) s.spelled)
+
+pub phase_none : (bytes first rest : List ℕ) → words bytes ≡ first ∷ words rest → NoPair rest → NoPhase bytes
+phase_none bytes first rest cut none p q s =
+    none p q (record { spelled = behind_first bytes first rest cut (codes "phase") (pair_words p q) s.spelled; first = s.first; second = s.second })
+
+pub phase_is : (bytes first rest : List ℕ) → words bytes ≡ first ∷ words rest → first ≡ codes "phase" → (p q : Place) → SpellsPair rest p q → SpellsPhase bytes p q
+phase_is bytes first rest cut is p q s = record {
+  spelled = cut ∙ (ap (λ x. x ∷ words rest) is ∙ ap (λ ws. codes "phase" ∷ ws) s.spelled);
+  first = s.first;
+  second = s.second;
+}
+
+-- ---- orders by their first word
+-- the first two letters of a word as one number
+unfoldable pub letters : List ℕ → ℕ
+letters [] = 0
+letters (a ∷ []) = a
+letters (a ∷ b ∷ bs) = 256 * a + b
+
+pub open_none : (bytes : List ℕ) → is_name bytes ≡ false → HasNone (codes "open") bytes
+unfolding letters
+open_none bytes f (Open n) h = not_name bytes n f (alone bytes n h.spelled) h.formed
+open_none bytes f o h = absurd (let e = ap letters h.verb in omega (arith, e))
+
+pub splice_none : (bytes : List ℕ) → ((p : Place) (f t : ℕ) → words bytes ≡ p.name ∷ decimal p.version ∷ decimal f ∷ decimal t ∷ [] → IsPlace p → f < 2 ^ 32 → t < 2 ^ 32 → ⊥)
+    → HasNone (codes "splice") bytes
+unfolding letters
+splice_none bytes none (Splice p f t) h = none p f t h.spelled h.formed.0 h.formed.1 h.formed.2
+splice_none bytes none o h = absurd (let e = ap letters h.verb in omega (arith, e))
+
+pub retire_none : (bytes : List ℕ) → NoPlace bytes → HasNone (codes "retire") bytes
+unfolding letters
+retire_none bytes none (Retire p) h = none p (record { spelled = h.spelled; formed = h.formed })
+retire_none bytes none o h = absurd (let e = ap letters h.verb in omega (arith, e))
+
+pub sum_none : (bytes : List ℕ) → NoPlace bytes → HasNone (codes "sum") bytes
+unfolding letters
+sum_none bytes none (Sum p) h = none p (record { spelled = h.spelled; formed = h.formed })
+sum_none bytes none o h = absurd (let e = ap letters h.verb in omega (arith, e))
+
+pub show_none : (bytes : List ℕ) → NoPlace bytes → HasNone (codes "show") bytes
+unfolding letters
+show_none bytes none (Show p) h = none p (record { spelled = h.spelled; formed = h.formed })
+show_none bytes none o h = absurd (let e = ap letters h.verb in omega (arith, e))
+
+pub prove_none : (bytes : List ℕ) → NoPair bytes → HasNone (codes "prove") bytes
+unfolding letters
+prove_none bytes none (Prove p q) h = none p q (record { spelled = h.spelled; first = h.formed.0; second = h.formed.1 })
+prove_none bytes none o h = absurd (let e = ap letters h.verb in omega (arith, e))
+
+pub ask_none : (bytes : List ℕ) → NoPhase bytes → NoPair bytes → HasNone (codes "ask") bytes
+unfolding letters
+ask_none bytes phase none (Ask p q) h = none p q (record { spelled = h.spelled; first = h.formed.0; second = h.formed.1 })
+ask_none bytes phase none (AskPhase p q) h = phase p q (record { spelled = h.spelled; first = h.formed.0; second = h.formed.1 })
+ask_none bytes phase none o h = absurd (let e = ap letters h.verb in omega (arith, e))
+
+-- No order begins with another word.
+pub no_verb : (verb bytes : List ℕ) → verb ≢ codes "open" → verb ≢ codes "splice" → verb ≢ codes "retire" → verb ≢ codes "ask" → verb ≢ codes "prove"
+    → verb ≢ codes "sum" → verb ≢ codes "show" → HasNone verb bytes
+no_verb verb bytes open splice retire ask prove sum show (Open n) h = open (sym h.verb)
+no_verb verb bytes open splice retire ask prove sum show (Splice p f t) h = splice (sym h.verb)
+no_verb verb bytes open splice retire ask prove sum show (Retire p) h = retire (sym h.verb)
+no_verb verb bytes open splice retire ask prove sum show (Ask p q) h = ask (sym h.verb)
+no_verb verb bytes open splice retire ask prove sum show (AskPhase p q) h = ask (sym h.verb)
+no_verb verb bytes open splice retire ask prove sum show (Prove p q) h = prove (sym h.verb)
+no_verb verb bytes open splice retire ask prove sum show (Sum p) h = sum (sym h.verb)
+no_verb verb bytes open splice retire ask prove sum show (Show p) h = show (sym h.verb)
+
+-- ---- whole orders, and lines
+pub order_ends : (bytes : List ℕ) → words bytes ≡ bytes ∷ [] → NoOrder bytes
+order_ends bytes e (Open n) s = no_rest (sym e ∙ s.spelled)
+order_ends bytes e (Splice p f t) s = no_rest (sym e ∙ s.spelled)
+order_ends bytes e (Retire p) s = no_rest (sym e ∙ s.spelled)
+order_ends bytes e (Ask p q) s = no_rest (sym e ∙ s.spelled)
+order_ends bytes e (AskPhase p q) s = no_rest (sym e ∙ s.spelled)
+order_ends bytes e (Prove p q) s = no_rest (sym e ∙ s.spelled)
+order_ends bytes e (Sum p) s = no_rest (sym e ∙ s.spelled)
+order_ends bytes e (Show p) s = no_rest (sym e ∙ s.spelled)
+
+pub order_none : (bytes first rest : List ℕ) → words bytes ≡ first ∷ words rest → HasNone first rest → NoOrder bytes
+order_none bytes first rest cut none o s =
+    none o (record {
+      verb = sym (first_is bytes first rest cut (verb_of o) (argument_words o) s.spelled);
+      spelled = behind_first bytes first rest cut (verb_of o) (argument_words o) s.spelled;
+      formed = s.formed;
+    })
+
+pub order_is : (bytes first rest : List ℕ) → words bytes ≡ first ∷ words rest → (o : Order) → HasArguments first rest o → SpellsOrder bytes o
+order_is bytes first rest cut o h = record {
+  spelled = cut ∙ (ap (λ x. x ∷ words rest) (sym h.verb) ∙ ap (λ ws. verb_of o ∷ ws) h.spelled);
+  formed = h.formed;
+}
+
+pub line_ends : (bytes : List ℕ) → words bytes ≡ bytes ∷ [] → SpellsNone bytes
+line_ends bytes e session o s = no_rest (sym e ∙ s.spelled)
+
+pub line_unnumbered : (bytes first rest : List ℕ) → words bytes ≡ first ∷ words rest → NoNumber first → SpellsNone bytes
+line_unnumbered bytes first rest cut none session o s = no_numbered bytes first rest cut session (verb_of o ∷ argument_words o) none s.spelled s.below
+
+pub line_no_order : (bytes first rest : List ℕ) → words bytes ≡ first ∷ words rest → NoOrder rest → SpellsNone bytes
+line_no_order bytes first rest cut none session o s =
+    none o (record { spelled = behind_first bytes first rest cut (decimal session) (verb_of o ∷ argument_words o) s.spelled; formed = s.formed })
+
+pub line_is : (bytes first rest : List ℕ) → words bytes ≡ first ∷ words rest → (session : ℕ) (o : Order) → SpellsNumber first session → SpellsOrder rest o → Spells bytes session o
+line_is bytes first rest cut session o n s = record {
+  spelled = cut ∙ (ap (λ x. x ∷ words rest) (sym n.spelled) ∙ ap (λ ws. decimal session ∷ ws) s.spelled);
+  below = n.below;
+  formed = s.formed;
+}

@@ -1,0 +1,50 @@
+//! Words and numbers.
+
+ghost use Rattle.std.specs.Prelude.{◌≡◌, ℕ, [], ◌∷◌, MatchOption};
+ghost use Rattle.ps_script.specs.Words.{words, digits_value, SpellsNumber, NoNumber};
+
+use itoa::Buffer;
+
+/// The first word of the bytes, and the words behind it.
+#[derive(Clone, Copy)]
+pub struct Words<'a> {
+    pub first: &'a [u8],
+    pub rest: &'a [u8],
+}
+
+/// The first of several words. None where there is one alone.
+pub fn cut(bytes: &[u8]) -> Option<Words<'_>>
+    ensures { MatchOption result (words bytes.now ≡ bytes.now ∷ []) (λ w. words bytes.now ≡ w.first.now ∷ words w.rest.now) }
+{
+    let at = bytes.iter().position(|b| *b == b' ')?;
+    Some(Words {
+        first: &bytes[..at],
+        rest: &bytes[at + 1..],
+    })
+}
+
+// The bytes as digits, modulo 2^32, whatever they are.
+fn digits_value(bytes: &[u8]) -> u32
+    ensures { result ≡ digits_value 0 bytes.now }
+{
+    let mut value: u32 = 0;
+    for b in bytes {
+        value = value
+            .wrapping_mul(10)
+            .wrapping_add(u32::from(*b).wrapping_sub(u32::from(b'0')));
+    }
+    value
+}
+
+/// The number below 2^32 that the bytes are. There is one spelling of each, so what they come to is written again.
+pub fn number(bytes: &[u8]) -> Option<u32>
+    ensures { MatchOption result (NoNumber bytes.now) (λ v. SpellsNumber bytes.now v) }
+{
+    let value = digits_value(bytes);
+    let mut buffer = Buffer::new();
+    if buffer.format(value).as_bytes() == bytes {
+        Some(value)
+    } else {
+        None
+    }
+}
