@@ -1,5 +1,5 @@
 pub mod LineLemmas
+pub mod NameLemmas
 pub mod OrderLemmas
 pub mod ReadLaws
-pub mod Spelling
 pub mod WordLemmas

@@ -38,10 +38,10 @@ module _ (bytes first rest : List ℕ) (cut : words bytes ≡ first ∷ words re
   no_numbered v ws none e below = none v below (sym (first_is (decimal v) ws e))
 
   -- ---- places
-  pub place_is : (p : Place) → is_name p.name ≡ true → p.name ≡ first → SpellsNumber rest p.version → SpellsPlace bytes p
-  place_is p name e s = record {
+  pub place_is : (p : Place) → p.name ≡ first → is_name first ≡ true → SpellsNumber rest p.version → SpellsPlace bytes p
+  place_is p e name s = record {
     spelled = cut ∙ (ap (λ x. x ∷ words rest) (sym e) ∙ ap (λ ws. p.name ∷ ws) (number_word rest p.version s));
-    formed = record { name = name; below = s.below };
+    formed = record { name = ap is_name e ∙ name; below = s.below };
   }
 
   pub place_unnamed : is_name first ≡ false → NoPlace bytes
@@ -72,10 +72,10 @@ module _ (bytes first rest : List ℕ) (cut : words bytes ≡ first ∷ words re
   pair_ends e p q s = no_rest (sym e ∙ behind_first p.name (decimal p.version ∷ place_words q) s.spelled)
 
   module _ (second more : List ℕ) (cut' : words rest ≡ second ∷ words more) where
-    pub pair_is : (p q : Place) → is_name p.name ≡ true → p.name ≡ first → SpellsNumber second p.version → SpellsPlace more q → SpellsPair bytes p q
-    pair_is p q name e s k = record {
+    pub pair_is : (p q : Place) → p.name ≡ first → is_name first ≡ true → SpellsNumber second p.version → SpellsPlace more q → SpellsPair bytes p q
+    pair_is p q e name s k = record {
       spelled = cut ∙ (ap (λ x. x ∷ words rest) (sym e) ∙ ap (λ ws. p.name ∷ ws) (cut' ∙ (ap (λ x. x ∷ words more) (sym s.spelled) ∙ ap (λ ws. decimal p.version ∷ ws) k.spelled)));
-      first = record { name = name; below = s.below };
+      first = record { name = ap is_name e ∙ name; below = s.below };
       second = k.formed;
     }
 
@@ -124,51 +124,56 @@ letters (a ∷ b ∷ bs) = 256 * a + b
 pub open_none : (bytes : List ℕ) → is_name bytes ≡ false → HasNone (codes "open") bytes
 unfolding letters
 open_none bytes f (Open n) h = not_name bytes n f (alone bytes n h.spelled) h.formed
-open_none bytes f o h = absurd (let e = ap letters h.verb in omega (arith, e))
+open_none bytes f o h = absurd (let e = ap letters h.verb_is in omega (arith, e))
+
+pub open_is : (bytes n : List ℕ) → n ≡ bytes → is_name bytes ≡ true → HasArguments (codes "open") bytes (Open n)
+open_is bytes n e h =
+    let name : is_name n ≡ true = ap is_name e ∙ h in
+    record { verb_is = refl; spelled = ap words (sym e) ∙ name_word n name; formed = name }
 
 pub splice_none : (bytes : List ℕ) → ((p : Place) (f t : ℕ) → words bytes ≡ p.name ∷ decimal p.version ∷ decimal f ∷ decimal t ∷ [] → IsPlace p → f < 2 ^ 32 → t < 2 ^ 32 → ⊥)
     → HasNone (codes "splice") bytes
 unfolding letters
 splice_none bytes none (Splice p f t) h = none p f t h.spelled h.formed.0 h.formed.1 h.formed.2
-splice_none bytes none o h = absurd (let e = ap letters h.verb in omega (arith, e))
+splice_none bytes none o h = absurd (let e = ap letters h.verb_is in omega (arith, e))
 
 pub retire_none : (bytes : List ℕ) → NoPlace bytes → HasNone (codes "retire") bytes
 unfolding letters
 retire_none bytes none (Retire p) h = none p (record { spelled = h.spelled; formed = h.formed })
-retire_none bytes none o h = absurd (let e = ap letters h.verb in omega (arith, e))
+retire_none bytes none o h = absurd (let e = ap letters h.verb_is in omega (arith, e))
 
 pub sum_none : (bytes : List ℕ) → NoPlace bytes → HasNone (codes "sum") bytes
 unfolding letters
 sum_none bytes none (Sum p) h = none p (record { spelled = h.spelled; formed = h.formed })
-sum_none bytes none o h = absurd (let e = ap letters h.verb in omega (arith, e))
+sum_none bytes none o h = absurd (let e = ap letters h.verb_is in omega (arith, e))
 
 pub show_none : (bytes : List ℕ) → NoPlace bytes → HasNone (codes "show") bytes
 unfolding letters
 show_none bytes none (Show p) h = none p (record { spelled = h.spelled; formed = h.formed })
-show_none bytes none o h = absurd (let e = ap letters h.verb in omega (arith, e))
+show_none bytes none o h = absurd (let e = ap letters h.verb_is in omega (arith, e))
 
 pub prove_none : (bytes : List ℕ) → NoPair bytes → HasNone (codes "prove") bytes
 unfolding letters
 prove_none bytes none (Prove p q) h = none p q (record { spelled = h.spelled; first = h.formed.0; second = h.formed.1 })
-prove_none bytes none o h = absurd (let e = ap letters h.verb in omega (arith, e))
+prove_none bytes none o h = absurd (let e = ap letters h.verb_is in omega (arith, e))
 
 pub ask_none : (bytes : List ℕ) → NoPhase bytes → NoPair bytes → HasNone (codes "ask") bytes
 unfolding letters
 ask_none bytes phase none (Ask p q) h = none p q (record { spelled = h.spelled; first = h.formed.0; second = h.formed.1 })
 ask_none bytes phase none (AskPhase p q) h = phase p q (record { spelled = h.spelled; first = h.formed.0; second = h.formed.1 })
-ask_none bytes phase none o h = absurd (let e = ap letters h.verb in omega (arith, e))
+ask_none bytes phase none o h = absurd (let e = ap letters h.verb_is in omega (arith, e))
 
 -- No order begins with another word.
 pub no_verb : (verb bytes : List ℕ) → verb ≢ codes "open" → verb ≢ codes "splice" → verb ≢ codes "retire" → verb ≢ codes "ask" → verb ≢ codes "prove"
     → verb ≢ codes "sum" → verb ≢ codes "show" → HasNone verb bytes
-no_verb verb bytes open splice retire ask prove sum show (Open n) h = open (sym h.verb)
-no_verb verb bytes open splice retire ask prove sum show (Splice p f t) h = splice (sym h.verb)
-no_verb verb bytes open splice retire ask prove sum show (Retire p) h = retire (sym h.verb)
-no_verb verb bytes open splice retire ask prove sum show (Ask p q) h = ask (sym h.verb)
-no_verb verb bytes open splice retire ask prove sum show (AskPhase p q) h = ask (sym h.verb)
-no_verb verb bytes open splice retire ask prove sum show (Prove p q) h = prove (sym h.verb)
-no_verb verb bytes open splice retire ask prove sum show (Sum p) h = sum (sym h.verb)
-no_verb verb bytes open splice retire ask prove sum show (Show p) h = show (sym h.verb)
+no_verb verb bytes opens splice retire ask prove sum show (Open n) h = opens (sym h.verb_is)
+no_verb verb bytes opens splice retire ask prove sum show (Splice p f t) h = splice (sym h.verb_is)
+no_verb verb bytes opens splice retire ask prove sum show (Retire p) h = retire (sym h.verb_is)
+no_verb verb bytes opens splice retire ask prove sum show (Ask p q) h = ask (sym h.verb_is)
+no_verb verb bytes opens splice retire ask prove sum show (AskPhase p q) h = ask (sym h.verb_is)
+no_verb verb bytes opens splice retire ask prove sum show (Prove p q) h = prove (sym h.verb_is)
+no_verb verb bytes opens splice retire ask prove sum show (Sum p) h = sum (sym h.verb_is)
+no_verb verb bytes opens splice retire ask prove sum show (Show p) h = show (sym h.verb_is)
 
 -- ---- whole orders, and lines
 pub order_ends : (bytes : List ℕ) → words bytes ≡ bytes ∷ [] → NoOrder bytes
@@ -184,14 +189,14 @@ order_ends bytes e (Show p) s = no_rest (sym e ∙ s.spelled)
 pub order_none : (bytes first rest : List ℕ) → words bytes ≡ first ∷ words rest → HasNone first rest → NoOrder bytes
 order_none bytes first rest cut none o s =
     none o (record {
-      verb = sym (first_is bytes first rest cut (verb_of o) (argument_words o) s.spelled);
+      verb_is = sym (first_is bytes first rest cut (verb_of o) (argument_words o) s.spelled);
       spelled = behind_first bytes first rest cut (verb_of o) (argument_words o) s.spelled;
       formed = s.formed;
     })
 
 pub order_is : (bytes first rest : List ℕ) → words bytes ≡ first ∷ words rest → (o : Order) → HasArguments first rest o → SpellsOrder bytes o
 order_is bytes first rest cut o h = record {
-  spelled = cut ∙ (ap (λ x. x ∷ words rest) (sym h.verb) ∙ ap (λ ws. verb_of o ∷ ws) h.spelled);
+  spelled = cut ∙ (ap (λ x. x ∷ words rest) (sym h.verb_is) ∙ ap (λ ws. verb_of o ∷ ws) h.spelled);
   formed = h.formed;
 }
 

@@ -11,12 +11,9 @@ use Rattle.ps_script.specs.declared.fault.ScriptFault.TheVariants.{Form, Session
 use Rattle.ps_script.specs.Lines.{line_of, rest_of, HasBlock, HasNoBlock}
 use Rattle.ps_script.specs.Words.{words}
 use Rattle.ps_script.specs.Orders.{pair_words, IsPlace, IsOrder, verb_of, argument_words, Spells, SpellsNone, takes_block}
-use Rattle.ps_script.specs.Reading.{Read, Asked, asked_of, behind, is_skipped, IsReading, IsLineReading, IsOrderReading, Known, Only, lines_of}
-use Rattle.ps_script.specs.Reading.IsReading as reading
-use Rattle.ps_script.specs.Reading.IsLineReading as of_line
-use Rattle.ps_script.specs.Reading.IsOrderReading as of_order
-use Rattle.ps_script.specs.Items.{IsBody, LacksBody, asked_in, LeadsOn, OrderLeadsOn, FaultIs}
-use Rattle.ps_script.specs.Items.IsBody as body
+use Rattle.ps_script.specs.Reading.{Read, Asked, asked_of, behind, is_skipped, IsReading, at_end, at_line, IsLineReading, skipped, ordered, formless, IsOrderReading, above, plain, blocked, unended, Known, Only}
+use Rattle.ps_script.specs.Items.{IsBody, with_block, without_block, LacksBody, LeadsOn, OrderLeadsOn, FaultIs}
+use Rattle.ps_script.proofs.WordLemmas.{not_both}
 use Rattle.ps_script.proofs.OrderLemmas.{letters}
 use Rattle.ps_script.proofs.LineLemmas.{block_once, block_or_none}
 
@@ -68,9 +65,6 @@ spelled_once line s s' o o' h k =
     record { session = number_once s s' h.below k.below number; order = order_once o o' verbs others h.formed k.formed }
 
 -- ---- what bytes are read as is one thing
-not_both : (b : Bool) → b ≡ true → b ≡ false → ⊥
-not_both b h k = let e : true ≡ false = sym h ∙ k in cc
-
 asked_once : (s : ℕ) (o : Order) (b c : List ℕ) (r r' : Read) → b ≡ c → r ≡ r'
     → behind (record { session = s; order = o; block = b } ∷ []) r ≡ behind (record { session = s; order = o; block = c } ∷ []) r'
 asked_once s o b c r r' e f =
@@ -78,45 +72,45 @@ asked_once s o b c r r' e f =
 
 mutual
   same_reading : (n : ℕ) (bytes : List ℕ) (r s : Read) → IsReading n bytes r → IsReading n bytes s → r ≡ s
-  same_reading n bytes r s (reading.over e f) (reading.over e' f') = f ∙ sym f'
-  same_reading n bytes r s (reading.over e f) (reading.line g l) = absurd (g e)
-  same_reading n bytes r s (reading.line g l) (reading.over e f) = absurd (g e)
-  same_reading n bytes r s (reading.line g l) (reading.line g' l') = same_line n (line_of bytes) (rest_of bytes) r s l l'
+  same_reading n bytes r s (at_end e f) (at_end e' f') = f ∙ sym f'
+  same_reading n bytes r s (at_end e f) (at_line g l) = absurd (g e)
+  same_reading n bytes r s (at_line g l) (at_end e f) = absurd (g e)
+  same_reading n bytes r s (at_line g l) (at_line g' l') = same_line n (line_of bytes) (rest_of bytes) r s l l'
 
   same_line : (n : ℕ) (line rest : List ℕ) (r s : Read) → IsLineReading n line rest r → IsLineReading n line rest s → r ≡ s
-  same_line n line rest r s (of_line.skip e h) (of_line.skip e' h') = same_reading (n + 1) rest r s h h'
-  same_line n line rest r s (of_line.skip e h) (of_line.order e' k' h') = absurd (not_both (is_skipped line) e e')
-  same_line n line rest r s (of_line.skip e h) (of_line.form e' k' f') = absurd (not_both (is_skipped line) e e')
-  same_line n line rest r s (of_line.order e k h) (of_line.skip e' h') = absurd (not_both (is_skipped line) e' e)
-  same_line n line rest r s (of_line.order {session} {o} e k h) (of_line.order {session = session'} {o = o'} e' k' h') =
+  same_line n line rest r s (skipped e h) (skipped e' h') = same_reading (n + 1) rest r s h h'
+  same_line n line rest r s (skipped e h) (ordered e' k' h') = absurd (not_both (is_skipped line) e e')
+  same_line n line rest r s (skipped e h) (formless e' k' f') = absurd (not_both (is_skipped line) e e')
+  same_line n line rest r s (ordered e k h) (skipped e' h') = absurd (not_both (is_skipped line) e' e)
+  same_line n line rest r s (ordered {session} {o} e k h) (ordered {session = session'} {o = o'} e' k' h') =
       let same = spelled_once line session' session o' o k' k in
       same_order n session o rest r s h (subst (λ x. IsOrderReading n x o rest s) same.session (subst (λ x. IsOrderReading n session' x rest s) same.order h'))
-  same_line n line rest r s (of_line.order {session} {o} e k h) (of_line.form e' k' f') = absurd (k' session o k)
-  same_line n line rest r s (of_line.form e k f) (of_line.skip e' h') = absurd (not_both (is_skipped line) e' e)
-  same_line n line rest r s (of_line.form e k f) (of_line.order {session} {o} e' k' h') = absurd (k session o k')
-  same_line n line rest r s (of_line.form e k f) (of_line.form e' k' f') = f ∙ sym f'
+  same_line n line rest r s (ordered {session} {o} e k h) (formless e' k' f') = absurd (k' session o k)
+  same_line n line rest r s (formless e k f) (skipped e' h') = absurd (not_both (is_skipped line) e' e)
+  same_line n line rest r s (formless e k f) (ordered {session} {o} e' k' h') = absurd (k session o k')
+  same_line n line rest r s (formless e k f) (formless e' k' f') = f ∙ sym f'
 
   same_order : (n session : ℕ) (o : Order) (rest : List ℕ) (r s : Read) → IsOrderReading n session o rest r → IsOrderReading n session o rest s → r ≡ s
-  same_order n session o rest r s (of_order.session h f) (of_order.session h' f') = f ∙ sym f'
-  same_order n session o rest r s (of_order.session h f) (of_order.plain l e k g) = absurd (omega arith)
-  same_order n session o rest r s (of_order.session h f) (of_order.block l e b k g) = absurd (omega arith)
-  same_order n session o rest r s (of_order.session h f) (of_order.open_block l e b g) = absurd (omega arith)
-  same_order n session o rest r s (of_order.plain l e k g) (of_order.session h f) = absurd (omega arith)
-  same_order n session o rest r s (of_order.plain {s = t} l e k g) (of_order.plain {s = t'} l' e' k' g') =
+  same_order n session o rest r s (above h f) (above h' f') = f ∙ sym f'
+  same_order n session o rest r s (above h f) (plain l e k g) = absurd (omega arith)
+  same_order n session o rest r s (above h f) (blocked l e b k g) = absurd (omega arith)
+  same_order n session o rest r s (above h f) (unended l e b g) = absurd (omega arith)
+  same_order n session o rest r s (plain l e k g) (above h f) = absurd (omega arith)
+  same_order n session o rest r s (plain {s = t} l e k g) (plain {s = t'} l' e' k' g') =
       g ∙ (asked_once session o [] [] t t' refl (same_reading (n + 1) rest t t' k k') ∙ sym g')
-  same_order n session o rest r s (of_order.plain l e k g) (of_order.block l' e' b k' g') = absurd (not_both (takes_block o) e' e)
-  same_order n session o rest r s (of_order.plain l e k g) (of_order.open_block l' e' b g') = absurd (not_both (takes_block o) e' e)
-  same_order n session o rest r s (of_order.block l e b k g) (of_order.session h f) = absurd (omega arith)
-  same_order n session o rest r s (of_order.block l e b k g) (of_order.plain l' e' k' g') = absurd (not_both (takes_block o) e e')
-  same_order n session o rest r s (of_order.block {text} {after} {lines} {s = t} l e b k g) (of_order.block {text = text'} {after = after'} {lines = lines'} {s = t'} l' e' b' k' g') =
+  same_order n session o rest r s (plain l e k g) (blocked l' e' b k' g') = absurd (not_both (takes_block o) e' e)
+  same_order n session o rest r s (plain l e k g) (unended l' e' b g') = absurd (not_both (takes_block o) e' e)
+  same_order n session o rest r s (blocked l e b k g) (above h f) = absurd (omega arith)
+  same_order n session o rest r s (blocked l e b k g) (plain l' e' k' g') = absurd (not_both (takes_block o) e e')
+  same_order n session o rest r s (blocked {text} {after} {lines} {s = t} l e b k g) (blocked {text = text'} {after = after'} {lines = lines'} {s = t'} l' e' b' k' g') =
       let same = block_once rest text' text lines' lines after' after b' b in
       let moved = subst (λ x. IsReading (n + 1 + x) after t') same.lines (subst (λ x. IsReading (n + 1 + lines') x t') same.rest k') in
       g ∙ (asked_once session o text text' t t' (sym same.text) (same_reading (n + 1 + lines) after t t' k moved) ∙ sym g')
-  same_order n session o rest r s (of_order.block {text} {after} {lines} l e b k g) (of_order.open_block l' e' b' g') = absurd (block_or_none rest text lines after b b')
-  same_order n session o rest r s (of_order.open_block l e b g) (of_order.session h f) = absurd (omega arith)
-  same_order n session o rest r s (of_order.open_block l e b g) (of_order.plain l' e' k' g') = absurd (not_both (takes_block o) e e')
-  same_order n session o rest r s (of_order.open_block l e b g) (of_order.block {text} {after} {lines} l' e' b' k' g') = absurd (block_or_none rest text lines after b' b)
-  same_order n session o rest r s (of_order.open_block l e b g) (of_order.open_block l' e' b' g') = g ∙ sym g'
+  same_order n session o rest r s (blocked {text} {after} {lines} l e b k g) (unended l' e' b' g') = absurd (block_or_none rest text lines after b b')
+  same_order n session o rest r s (unended l e b g) (above h f) = absurd (omega arith)
+  same_order n session o rest r s (unended l e b g) (plain l' e' k' g') = absurd (not_both (takes_block o) e e')
+  same_order n session o rest r s (unended l e b g) (blocked {text} {after} {lines} l' e' b' k' g') = absurd (block_or_none rest text lines after b' b)
+  same_order n session o rest r s (unended l e b g) (unended l' e' b' g') = g ∙ sym g'
 
 pub only_reading : (bytes : List ℕ) (r : Read) → Known r (IsReading 1 bytes) → Only r (IsReading 1 bytes)
 only_reading bytes (Ok xs) h s k = same_reading 1 bytes s (Ok xs) k h
@@ -137,40 +131,40 @@ behind_both xs ys (Err e) = refl
 module _ (n : ℕ) (bytes : List ℕ) (some : bytes ≢ []) (line rest : List ℕ) (l : line ≡ line_of bytes) (t : rest ≡ rest_of bytes) where
   -- by the first line and what stands behind it
   by_line : (r : Read) → IsLineReading n line rest r → IsReading n bytes r
-  by_line r h = reading.line some (subst (λ x. IsLineReading n x (rest_of bytes) r) l (subst (λ x. IsLineReading n line x r) t h))
+  by_line r h = at_line some (subst (λ x. IsLineReading n x (rest_of bytes) r) l (subst (λ x. IsLineReading n line x r) t h))
 
   pub skip_leads : is_skipped line ≡ true → LeadsOn n bytes [] (n + 1) rest
-  skip_leads e r h = subst (IsReading n bytes) (sym (behind_nothing r)) (by_line r (of_line.skip e h))
+  skip_leads e r h = subst (IsReading n bytes) (sym (behind_nothing r)) (by_line r (skipped e h))
 
   pub order_leads : (session : ℕ) (o : Order) (xs : List Asked) (m : ℕ) (more : List ℕ) → is_skipped line ≡ false → Spells line session o
       → OrderLeadsOn n session o rest xs m more → LeadsOn n bytes xs m more
-  order_leads session o xs m more e s h r k = by_line (behind xs r) (of_line.order e s (h r k))
+  order_leads session o xs m more e s h r k = by_line (behind xs r) (ordered e s (h r k))
 
   pub form_read : is_skipped line ≡ false → SpellsNone line → IsReading n bytes (Err (Form n))
-  form_read e s = by_line (Err (Form n)) (of_line.form e s refl)
+  form_read e s = by_line (Err (Form n)) (formless e s refl)
 
   pub order_fault : (session : ℕ) (o : Order) (e : ScriptFault) → is_skipped line ≡ false → Spells line session o
       → FaultIs e (IsOrderReading n session o rest) → FaultIs e (IsReading n bytes)
-  order_fault session o (Form k) f s h = by_line (Err (Form k)) (of_line.order f s h)
-  order_fault session o (Session k) f s h = by_line (Err (Session k)) (of_line.order f s h)
-  order_fault session o (Block k) f s h = by_line (Err (Block k)) (of_line.order f s h)
+  order_fault session o (Form k) f s h = by_line (Err (Form k)) (ordered f s h)
+  order_fault session o (Session k) f s h = by_line (Err (Session k)) (ordered f s h)
+  order_fault session o (Block k) f s h = by_line (Err (Block k)) (ordered f s h)
   order_fault session o Memory f s h = tt
 
 -- a right session and a body
 pub body_leads : (n session : ℕ) (o : Order) (bytes text : List ℕ) (lines : ℕ) (rest : List ℕ) (a : Asked) (m : ℕ) → session ≤ 15 → IsBody o bytes text lines rest
     → a ≡ record { session = session; order = o; block = text } → m ≡ n + (lines + 1) → OrderLeadsOn n session o bytes (a ∷ []) m rest
-body_leads n session o bytes text lines rest a m low (body.block takes has) e k r h =
-    of_order.block low takes has (subst (λ i. IsReading i rest r) (k ∙ omega arith) h) (ap (λ (x : Asked). behind (x ∷ []) r) e)
-body_leads n session o bytes text lines rest a m low (body.none takes empty zero same) e k r h =
+body_leads n session o bytes text lines rest a m low (with_block takes has) e k r h =
+    blocked low takes has (subst (λ i. IsReading i rest r) (k ∙ omega arith) h) (ap (λ (x : Asked). behind (x ∷ []) r) e)
+body_leads n session o bytes text lines rest a m low (without_block takes empty zero same) e k r h =
     let count : m ≡ n + 1 = k ∙ ap (λ i. n + (i + 1)) zero in
     let none : a ≡ record { session = session; order = o; block = [] } = e ∙ ap (λ (x : List ℕ). record { session = session; order = o; block = x }) empty in
-    of_order.plain low takes (subst (λ i. IsReading i bytes r) count (subst (λ x. IsReading m x r) same h)) (ap (λ (x : Asked). behind (x ∷ []) r) none)
+    plain low takes (subst (λ i. IsReading i bytes r) count (subst (λ x. IsReading m x r) same h)) (ap (λ (x : Asked). behind (x ∷ []) r) none)
 
 pub session_read : (n session : ℕ) (o : Order) (bytes : List ℕ) → 15 < session → IsOrderReading n session o bytes (Err (Session n))
-session_read n session o bytes h = of_order.session h refl
+session_read n session o bytes h = above h refl
 
 pub block_read : (n session : ℕ) (o : Order) (bytes : List ℕ) → session ≤ 15 → LacksBody o bytes → IsOrderReading n session o bytes (Err (Block n))
-block_read n session o bytes low lacks = of_order.open_block low lacks.wanted lacks.missing refl
+block_read n session o bytes low lacks = unended low lacks.wanted lacks.missing refl
 
 -- ---- all items
 pub leads_first : (bytes : List ℕ) (xs : List Line) → xs ≡ [] → LeadsOn 1 bytes (map asked_of xs) 1 bytes
@@ -195,7 +189,7 @@ leads_skip bytes lines n m mid rest h k =
 
 pub leads_end : (bytes : List ℕ) (lines : List Line) (n : ℕ) (rest : List ℕ) → LeadsOn 1 bytes (map asked_of lines) n rest → rest ≡ [] → IsReading 1 bytes (Ok (map asked_of lines))
 leads_end bytes lines n rest h e =
-    subst (λ xs. IsReading 1 bytes (Ok xs)) (append-nil (map asked_of lines)) (h (Ok []) (reading.over e refl))
+    subst (λ xs. IsReading 1 bytes (Ok xs)) (append-nil (map asked_of lines)) (h (Ok []) (at_end e refl))
 
 pub leads_fault : (bytes : List ℕ) (xs : List Asked) (n : ℕ) (rest : List ℕ) (e : ScriptFault) → LeadsOn 1 bytes xs n rest → FaultIs e (IsReading n rest)
     → Known (Err e) (IsReading 1 bytes)

@@ -1,12 +1,17 @@
 -- Words, and numbers as they are written.
-use Rattle.std.proofs.Common.{◌≡◌, ◌≢◌, ℕ, zero, suc, ◌+◌, ◌-◌, ◌*◌, ◌/◌, ◌%◌, ◌^◌, ◌<◌, ◌≤◌, ◌==◌, Bool, true, false, ◌&&◌, cond, List, [], ◌∷◌, ◌++◌, length, take, drop, decimal, Option, Some, None, refl, sym, ap, ◌∙◌, subst, arith}
-use Rattle.std.specs.List.{slice_split, position, position_or_len, before_first, after_first, list_all, All, join_with_byte}
+use Rattle.std.proofs.Common.{◌≡◌, ◌≢◌, ℕ, zero, suc, ◌+◌, ◌-◌, ◌*◌, ◌/◌, ◌%◌, ◌^◌, ◌<◌, ◌≤◌, ◌==◌, Bool, true, false, ◌&&◌, cond, List, [], ◌∷◌, ◌++◌, length, take, drop, decimal, Option, Some, None, refl, sym, ap, ◌∙◌, subst, arith, length-drop, get_or, add-one, drop-cons, not}
+use Rattle.std.specs.Prelude.{nat_lt}
+use Rattle.std.specs.List.{slice_split, onto_first, position, position_or_len, before_first, after_first, list_all, All, join_with_byte}
 use Rattle.std.proofs.lemmas.Bool.{and_parts}
 use Rattle.std.proofs.lemmas.Bool.Decides.{nat_tests}
 use Rattle.std.proofs.lemmas.List.Splits.{slice_split_none, slice_split_first, join_with_byte-slice_split}
+use Rattle.std.proofs.lemmas.List.{take_all}
 use Rattle.std.proofs.lemmas.Fmt.{decimal_by_steps}
 use Rattle.ps_script.specs.Names.{is_name, is_lower, is_rest}
 use Rattle.ps_script.specs.Words.{words, digits_value, SpellsNumber, NoNumber}
+
+pub not_both : (b : Bool) → b ≡ true → b ≡ false → ⊥
+not_both b h k = let e : true ≡ false = sym h ∙ k in cc
 
 -- ---- one word
 -- no byte is a space
@@ -18,10 +23,10 @@ one_word : (bs : List ℕ) → has_no_space bs ≡ true → words bs ≡ bs ∷ 
 unfolding has_no_space
 one_word [] h = refl
 one_word (b ∷ bs) h =
-    let F : Bool → Type 0 = λ t. cond t false (has_no_space bs) ≡ true → cond t ([] ∷ words bs) (Rattle.std.specs.List.onto_first b (words bs)) ≡ (b ∷ bs) ∷ [] in
+    let F : Bool → Type 0 = λ t. cond t false (has_no_space bs) ≡ true → cond t ([] ∷ words bs) (onto_first b (words bs)) ≡ (b ∷ bs) ∷ [] in
     (elim (b == 32) as F [
       | true ↦ (λ e. cc)
-      | false ↦ (λ e. ap (Rattle.std.specs.List.onto_first b) (one_word bs e))
+      | false ↦ (λ e. ap (onto_first b) (one_word bs e))
     ]) h
 
 no_space_append : (xs ys : List ℕ) → has_no_space xs ≡ true → has_no_space ys ≡ true → has_no_space (xs ++ ys) ≡ true
@@ -74,17 +79,17 @@ pub number_alone : (bytes : List ℕ) (v : ℕ) → v < 2 ^ 32 → NoNumber byte
 number_alone bytes v below none e = none v below (sym (alone bytes (decimal v) e))
 
 -- ---- what digits come to
-value_push : (v : ℕ) (ds : List ℕ) (d : ℕ) → digits_value v (ds ++ d ∷ []) ≡ ((digits_value v ds * 10) % 2 ^ 32 + (d + 4294967248) % 2 ^ 32) % 2 ^ 32
+value_push : (v : ℕ) (ds : List ℕ) (d : ℕ) → digits_value v (ds ++ d ∷ []) ≡ ((digits_value v ds * 10) % 2 ^ 32 + (d + 208) % 256) % 2 ^ 32
 unfolding digits_value
 value_push v [] d = refl
-value_push v (b ∷ bs) d = value_push (((v * 10) % 2 ^ 32 + (b + 4294967248) % 2 ^ 32) % 2 ^ 32) bs d
+value_push v (b ∷ bs) d = value_push (((v * 10) % 2 ^ 32 + (b + 208) % 256) % 2 ^ 32) bs d
 
 value_one : (m : ℕ) → m < 10 → digits_value 0 ((48 + m) ∷ []) ≡ m % 2 ^ 32
 unfolding digits_value
 value_one m h = omega arith
 
 value_more : (m : ℕ) (ds : List ℕ) → 10 ≤ m → digits_value 0 ds ≡ m / 10 % 2 ^ 32 → digits_value 0 (ds ++ (48 + m % 10) ∷ []) ≡ m % 2 ^ 32
-value_more m ds big e = value_push 0 ds (48 + m % 10) ∙ (ap (λ x. ((x * 10) % 2 ^ 32 + (48 + m % 10 + 4294967248) % 2 ^ 32) % 2 ^ 32) e ∙ omega arith)
+value_more m ds big e = value_push 0 ds (48 + m % 10) ∙ (ap (λ x. ((x * 10) % 2 ^ 32 + (48 + m % 10 + 208) % 256) % 2 ^ 32) e ∙ omega arith)
 
 value_decimal : (n : ℕ) → n < 2 ^ 32 → digits_value 0 (decimal n) ≡ n
 value_decimal n h =
@@ -96,11 +101,60 @@ number_none bytes v e other w below same =
     let one : v ≡ w = e ∙ (ap (digits_value 0) (sym same) ∙ value_decimal w below) in
     other (ap decimal one ∙ same)
 
-pub value_next : (v : ℕ) (bytes : List ℕ) (b : ℕ) (rest : List ℕ) → bytes ≡ b ∷ rest
-    → digits_value (((v * 10) % 2 ^ 32 + (b + 4294967248) % 2 ^ 32) % 2 ^ 32) rest ≡ digits_value v bytes
+-- One more byte, and the end.
+pub value_step : (bytes : List ℕ) (v i digit : ℕ) → i < length bytes → digit ≡ (get_or bytes i 0 + 208) % 256 → digits_value v (drop i bytes) ≡ digits_value 0 bytes
+    → digits_value (((v * 10) % 2 ^ 32 + digit) % 2 ^ 32) (drop (i + 1) bytes) ≡ digits_value 0 bytes
 unfolding digits_value
-value_next v bytes b rest e = ap (digits_value v) (sym e)
+value_step bytes v i digit h e so =
+    let parted : drop i bytes ≡ get_or bytes i 0 ∷ drop (i + 1) bytes = rw (add-one, drop-cons bytes i 0) in
+    ap (λ x. digits_value (((v * 10) % 2 ^ 32 + x) % 2 ^ 32) (drop (i + 1) bytes)) e ∙ (ap (digits_value v) (sym parted) ∙ so)
 
-pub value_end : (v : ℕ) (bytes : List ℕ) → bytes ≡ [] → digits_value v bytes ≡ v
+pub drop_over : (bytes : List ℕ) (n : ℕ) → length bytes ≤ n → drop n bytes ≡ []
+drop_over [] zero h = refl
+drop_over [] (suc n) h = refl
+drop_over (b ∷ bs) zero h = absurd (omega arith)
+drop_over (b ∷ bs) (suc n) h = drop_over bs n (omega arith)
+
+pub value_end : (bytes : List ℕ) (v i : ℕ) → length bytes ≤ i → digits_value v (drop i bytes) ≡ digits_value 0 bytes → v ≡ digits_value 0 bytes
 unfolding digits_value
-value_end v bytes e = ap (digits_value v) e
+value_end bytes v i h so = sym (ap (digits_value v) (drop_over bytes i h)) ∙ so
+
+-- ---- where a byte stands first
+pub position_some : (p : ℕ → Bool) (bytes : List ℕ) (at : ℕ) → Some at ≡ position p bytes → (nat_lt (position_or_len p bytes) (length bytes) ≡ true) × (position_or_len p bytes ≡ at)
+position_some p bytes at e =
+    let F : Bool → Type 0 = λ t. nat_lt (position_or_len p bytes) (length bytes) ≡ t → Some at ≡ cond t (Some (position_or_len p bytes)) None
+        → (nat_lt (position_or_len p bytes) (length bytes) ≡ true) × (position_or_len p bytes ≡ at) in
+    (elim (nat_lt (position_or_len p bytes) (length bytes)) as F [ true ↦ (λ k h. (k, (let same : at ≡ position_or_len p bytes = cc in sym same))) | false ↦ (λ k h. absurd (cc)) ]) refl e
+
+pub position_none : (p : ℕ → Bool) (bytes : List ℕ) → None ≡ position p bytes → nat_lt (position_or_len p bytes) (length bytes) ≡ false
+position_none p bytes e =
+    let F : Bool → Type 0 = λ t. nat_lt (position_or_len p bytes) (length bytes) ≡ t → None ≡ cond t (Some (position_or_len p bytes)) None
+        → nat_lt (position_or_len p bytes) (length bytes) ≡ false in
+    (elim (nat_lt (position_or_len p bytes) (length bytes)) as F [ true ↦ (λ k h. absurd (let z : None ≡ Some (position_or_len p bytes) = h in cc)) | false ↦ (λ k h. k) ]) refl e
+
+pub below_of : (m n : ℕ) → nat_lt m n ≡ true → m < n
+below_of m n h = grind (arith, nat_tests)
+
+pub not_below : (m n : ℕ) → nat_lt m n ≡ false → n ≤ m
+not_below m n h = grind (arith, nat_tests)
+
+-- what stands behind a place
+pub behind_place : (bytes : List ℕ) (at : ℕ) → take (length bytes - (at + 1)) (drop (at + 1) bytes) ≡ drop (at + 1) bytes
+behind_place bytes at = take_all (length bytes - (at + 1)) (drop (at + 1) bytes) (omega (arith, length-drop (at + 1) bytes))
+
+pub cut_some : (bytes : List ℕ) (at : ℕ) → Some at ≡ position (λ b. b == 32) bytes
+    → words bytes ≡ take at bytes ∷ words (take (length bytes - (at + 1)) (drop (at + 1) bytes))
+cut_some bytes at e =
+    let h = position_some (λ b. b == 32) bytes at e in
+    slice_split_first (λ b. b == 32) bytes 0 (below_of _ _ h.0)
+    ∙ (ap (λ k. take k bytes ∷ words (drop (k + 1) bytes)) h.1 ∙ ap (λ x. take at bytes ∷ words x) (sym (behind_place bytes at)))
+
+no_space : (bs : List ℕ) → length bs ≤ position_or_len (λ b. b == 32) bs → has_no_space bs ≡ true
+unfolding has_no_space
+no_space [] h = refl
+no_space (b ∷ bs) h =
+    let F : Bool → Type 0 = λ t. length (b ∷ bs) ≤ cond (not t) (1 + position_or_len (λ b. b == 32) bs) 0 → cond t false (has_no_space bs) ≡ true in
+    (elim (b == 32) as F [ true ↦ (λ e. absurd (omega arith)) | false ↦ (λ e. no_space bs (omega arith)) ]) h
+
+pub cut_none : (bytes : List ℕ) → None ≡ position (λ b. b == 32) bytes → words bytes ≡ bytes ∷ []
+cut_none bytes e = one_word bytes (no_space bytes (not_below _ _ (position_none (λ b. b == 32) bytes e)))

@@ -40,7 +40,7 @@ NoSpan bytes = (f t : ℕ) → SpellsSpan bytes f t → ⊥
 
 -- an order with this first word, and with these arguments
 pub record HasArguments (verb bytes : List ℕ) (o : Order) : Type 0 where
-  pub verb : verb_of o ≡ verb
+  pub verb_is : verb_of o ≡ verb
   pub spelled : words bytes ≡ argument_words o
   pub formed : IsOrder o
 

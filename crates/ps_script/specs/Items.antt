@@ -10,8 +10,8 @@ use Rattle.ps_script.specs.Reading.{Read, Asked, asked_of, behind, IsReading, Is
 
 -- What stands behind a command line: a block, or none.
 pub data IsBody (o : Order) (bytes text : List ℕ) (lines : ℕ) (rest : List ℕ) : Type 0 where
-  block : takes_block o ≡ true → HasBlock bytes text lines rest → IsBody o bytes text lines rest
-  none : takes_block o ≡ false → text ≡ [] → lines ≡ 0 → rest ≡ bytes → IsBody o bytes text lines rest
+  with_block : takes_block o ≡ true → HasBlock bytes text lines rest → IsBody o bytes text lines rest
+  without_block : takes_block o ≡ false → text ≡ [] → lines ≡ 0 → rest ≡ bytes → IsBody o bytes text lines rest
 
 -- A block is wanted, and has no end.
 pub record LacksBody (o : Order) (bytes : List ℕ) : Type 0 where

@@ -57,24 +57,27 @@ is_skipped (b ∷ bs) = b == 35
 
 mutual
   -- The bytes, whose first line is line n of the script, are read as r.
-  pub data IsReading (n : ℕ) (bytes : List ℕ) (r : Read) : Type 0 where
-    over : bytes ≡ [] → r ≡ Ok [] → IsReading n bytes r
-    line : bytes ≢ [] → IsLineReading n (line_of bytes) (rest_of bytes) r → IsReading n bytes r
+  pub data IsReading : (n : ℕ) (bytes : List ℕ) (r : Read) → Type 0 where
+    at_end : {n : ℕ} {bytes : List ℕ} {r : Read} → bytes ≡ [] → r ≡ Ok [] → IsReading n bytes r
+    at_line : {n : ℕ} {bytes : List ℕ} {r : Read} → bytes ≢ [] → IsLineReading n (line_of bytes) (rest_of bytes) r → IsReading n bytes r
 
   -- The same, by the first line and what stands behind it.
-  pub data IsLineReading (n : ℕ) (line rest : List ℕ) (r : Read) : Type 0 where
-    skip : is_skipped line ≡ true → IsReading (n + 1) rest r → IsLineReading n line rest r
-    order : {session : ℕ} {o : Order} → is_skipped line ≡ false → Spells line session o → IsOrderReading n session o rest r → IsLineReading n line rest r
-    form : is_skipped line ≡ false → SpellsNone line → r ≡ Err (Form n) → IsLineReading n line rest r
+  pub data IsLineReading : (n : ℕ) (line rest : List ℕ) (r : Read) → Type 0 where
+    skipped : {n : ℕ} {line rest : List ℕ} {r : Read} → is_skipped line ≡ true → IsReading (n + 1) rest r → IsLineReading n line rest r
+    ordered : {n session : ℕ} {o : Order} {line rest : List ℕ} {r : Read} → is_skipped line ≡ false → Spells line session o
+        → IsOrderReading n session o rest r → IsLineReading n line rest r
+    formless : {n : ℕ} {line rest : List ℕ} {r : Read} → is_skipped line ≡ false → SpellsNone line → r ≡ Err (Form n) → IsLineReading n line rest r
 
   -- The same, by the order of the first line, and what stands behind the line.
-  pub data IsOrderReading (n session : ℕ) (o : Order) (rest : List ℕ) (r : Read) : Type 0 where
-    session : 15 < session → r ≡ Err (Session n) → IsOrderReading n session o rest r
-    plain : {s : Read} → session ≤ 15 → takes_block o ≡ false → IsReading (n + 1) rest s
+  pub data IsOrderReading : (n session : ℕ) (o : Order) (rest : List ℕ) (r : Read) → Type 0 where
+    above : {n session : ℕ} {o : Order} {rest : List ℕ} {r : Read} → 15 < session → r ≡ Err (Session n) → IsOrderReading n session o rest r
+    plain : {n session : ℕ} {o : Order} {rest : List ℕ} {r s : Read} → session ≤ 15 → takes_block o ≡ false → IsReading (n + 1) rest s
         → r ≡ behind (record { session = session; order = o; block = [] } ∷ []) s → IsOrderReading n session o rest r
-    block : {text after : List ℕ} {lines : ℕ} {s : Read} → session ≤ 15 → takes_block o ≡ true → HasBlock rest text lines after
-        → IsReading (n + 1 + lines) after s → r ≡ behind (record { session = session; order = o; block = text } ∷ []) s → IsOrderReading n session o rest r
-    open_block : session ≤ 15 → takes_block o ≡ true → HasNoBlock rest → r ≡ Err (Block n) → IsOrderReading n session o rest r
+    blocked : {n session lines : ℕ} {o : Order} {rest text after : List ℕ} {r s : Read} → session ≤ 15 → takes_block o ≡ true
+        → HasBlock rest text lines after → IsReading (n + 1 + lines) after s
+        → r ≡ behind (record { session = session; order = o; block = text } ∷ []) s → IsOrderReading n session o rest r
+    unended : {n session : ℕ} {o : Order} {rest : List ℕ} {r : Read} → session ≤ 15 → takes_block o ≡ true → HasNoBlock rest
+        → r ≡ Err (Block n) → IsOrderReading n session o rest r
 
 -- The commands of an answer.
 abbrev pub lines_of : Result Script ScriptFault → Read

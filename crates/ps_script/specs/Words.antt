@@ -18,4 +18,4 @@ NoNumber bytes = (v : ℕ) → v < 2 ^ 32 → decimal v ≢ bytes
 -- What the bytes come to as digits, modulo 2^32, behind the digits of v.
 unfoldable pub digits_value : ℕ → List ℕ → ℕ
 digits_value v [] = v
-digits_value v (b ∷ bs) = digits_value (((v * 10) % 2 ^ 32 + (b + 4294967248) % 2 ^ 32) % 2 ^ 32) bs
+digits_value v (b ∷ bs) = digits_value (((v * 10) % 2 ^ 32 + (b + 208) % 256) % 2 ^ 32) bs

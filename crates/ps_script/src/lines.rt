@@ -3,6 +3,8 @@
 ghost use Rattle.std.specs.Prelude.{◌≡◌, ◌≢◌, ◌<◌, ◌≤◌, ◌+◌, [], length, IfSome, MatchOption};
 ghost use Rattle.ps_script.specs.Lines.{without_return, line_of, rest_of, HasBlock, HasNoBlock};
 
+use crate::pieces::find;
+
 /// The first line of the bytes, and what stands behind it.
 #[derive(Clone, Copy)]
 pub struct FirstLine<'a> {
@@ -19,12 +21,15 @@ pub struct BlockText<'a> {
 }
 
 // The bytes without a CR at their end.
+#[tactic(auto, unfolding(crate::specs::Lines::without_return))]
 fn without_return(bytes: &[u8]) -> &[u8]
     ensures { result.now ≡ without_return bytes.now }
 {
-    match bytes.split_last() {
-        Some((b'\r', front)) => front,
-        _ => bytes,
+    let len = bytes.len();
+    if len > 0 && bytes[len - 1] == b'\r' {
+        &bytes[..len - 1]
+    } else {
+        bytes
     }
 }
 
@@ -35,7 +40,7 @@ pub fn first_line(bytes: &[u8]) -> FirstLine<'_>
     ensures rest { result.rest.now ≡ rest_of bytes.now }
     ensures shorter { length result.rest.now < length bytes.now }
 {
-    match bytes.iter().position(|b| *b == b'\n') {
+    match find(bytes, b'\n') {
         Some(at) => FirstLine {
             line: without_return(&bytes[..at]),
             rest: &bytes[at + 1..],

@@ -106,7 +106,7 @@ fn are_rest(bytes: &[u8]) -> bool
 }
 
 /// Whether the bytes spell a name.
-#[tactic(auto, using(crate::proofs::Spelling::spelling))]
+#[tactic(auto, using(crate::proofs::NameLemmas::spelling))]
 fn is_spelled(bytes: &[u8]) -> bool
     ensures value { result ≡ is_name bytes.now }
     ensures short { result ≡ true → length bytes.now ≤ 32 }

@@ -1,6 +1,6 @@
 //! Words and numbers.
 
-ghost use Rattle.std.specs.Prelude.{◌≡◌, ℕ, [], ◌∷◌, MatchOption};
+ghost use Rattle.std.specs.Prelude.{◌≡◌, ◌==◌, ℕ, [], ◌∷◌, position, MatchOption};
 ghost use Rattle.ps_script.specs.Words.{words, digits_value, SpellsNumber, NoNumber};
 
 use itoa::Buffer;
@@ -12,11 +12,18 @@ pub struct Words<'a> {
     pub rest: &'a [u8],
 }
 
+/// Where a byte stands first.
+pub fn find(bytes: &[u8], mark: u8) -> Option<usize>
+    ensures { result ≡ position (λ b. b == mark) bytes.now }
+{
+    bytes.iter().position(|b| *b == mark)
+}
+
 /// The first of several words. None where there is one alone.
 pub fn cut(bytes: &[u8]) -> Option<Words<'_>>
     ensures { MatchOption result (words bytes.now ≡ bytes.now ∷ []) (λ w. words bytes.now ≡ w.first.now ∷ words w.rest.now) }
 {
-    let at = bytes.iter().position(|b| *b == b' ')?;
+    let at = find(bytes, b' ')?;
     Some(Words {
         first: &bytes[..at],
         rest: &bytes[at + 1..],
@@ -29,9 +36,8 @@ fn digits_value(bytes: &[u8]) -> u32
 {
     let mut value: u32 = 0;
     for b in bytes {
-        value = value
-            .wrapping_mul(10)
-            .wrapping_add(u32::from(*b).wrapping_sub(u32::from(b'0')));
+        let digit = u32::from(b.wrapping_sub(b'0'));
+        value = value.wrapping_mul(10).wrapping_add(digit);
     }
     value
 }

@@ -4,7 +4,7 @@ use Rattle.std.specs.List.{list_all}
 use Rattle.std.proofs.lemmas.List.{take_rest}
 use Rattle.std.proofs.lemmas.Bool.Decides.{nat_tests}
 use Rattle.ps_script.specs.Names.{is_name, is_lower, is_rest}
-use Rattle.ps_script.proofs.Spelling.{name_is}
+use Rattle.ps_script.proofs.NameLemmas.{name_is}
 use Rattle.ps_script.proofs.name.is_spelled.Goals as goal
 
 pub returns-then-is_lower-clause-value : goal.returns-then-is_lower-clause-value
