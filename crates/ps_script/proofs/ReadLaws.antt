@@ -1,5 +1,5 @@
 -- What bytes are read as is one thing, and what is read first leads on.
-use Rattle.std.proofs.Common.{◌≡◌, ◌≢◌, ℕ, ◌+◌, ◌<◌, ◌≤◌, Bool, true, false, List, [], ◌∷◌, ◌++◌, map, length, decimal, Option, Some, None, Result, Ok, Err, refl, sym, ap, ap₂, ◌∙◌, subst, arith, append_assoc, append-nil}
+use Rattle.std.proofs.Common.{◌≡◌, ◌≢◌, ℕ, ◌+◌, ◌^◌, ◌<◌, ◌≤◌, Bool, true, false, List, [], ◌∷◌, ◌++◌, map, length, decimal, Option, Some, None, Result, Ok, Err, refl, sym, ap, ap₂, ◌∙◌, subst, arith, append_assoc, append-nil}
 use Rattle.std.proofs.lemmas.Fmt.{decimal_injective}
 use Rattle.ps_script.specs.declared.name.Place.{Place}
 use Rattle.ps_script.specs.declared.order.Order.{Order}
@@ -102,21 +102,21 @@ mutual
   same_order n session o rest r s (plain l e k g) (unended l' e' b g') = absurd (not_both (takes_block o) e' e)
   same_order n session o rest r s (blocked l e b k g) (above h f) = absurd (omega arith)
   same_order n session o rest r s (blocked l e b k g) (plain l' e' k' g') = absurd (not_both (takes_block o) e e')
-  same_order n session o rest r s (blocked {text} {after} {lines} {s = t} l e b k g) (blocked {text = text'} {after = after'} {lines = lines'} {s = t'} l' e' b' k' g') =
+  same_order n session o rest r s (blocked {lines} {text} {after} {s = t} l e b k g) (blocked {lines = lines'} {text = text'} {after = after'} {s = t'} l' e' b' k' g') =
       let same = block_once rest text' text lines' lines after' after b' b in
       let moved = subst (λ x. IsReading (n + 1 + x) after t') same.lines (subst (λ x. IsReading (n + 1 + lines') x t') same.rest k') in
       g ∙ (asked_once session o text text' t t' (sym same.text) (same_reading (n + 1 + lines) after t t' k moved) ∙ sym g')
-  same_order n session o rest r s (blocked {text} {after} {lines} l e b k g) (unended l' e' b' g') = absurd (block_or_none rest text lines after b b')
+  same_order n session o rest r s (blocked {lines} {text} {after} l e b k g) (unended l' e' b' g') = absurd (block_or_none rest text lines after b b')
   same_order n session o rest r s (unended l e b g) (above h f) = absurd (omega arith)
   same_order n session o rest r s (unended l e b g) (plain l' e' k' g') = absurd (not_both (takes_block o) e e')
-  same_order n session o rest r s (unended l e b g) (blocked {text} {after} {lines} l' e' b' k' g') = absurd (block_or_none rest text lines after b' b)
+  same_order n session o rest r s (unended l e b g) (blocked {lines} {text} {after} l' e' b' k' g') = absurd (block_or_none rest text lines after b' b)
   same_order n session o rest r s (unended l e b g) (unended l' e' b' g') = g ∙ sym g'
 
 pub only_reading : (bytes : List ℕ) (r : Read) → Known r (IsReading 1 bytes) → Only r (IsReading 1 bytes)
-only_reading bytes (Ok xs) h s k = same_reading 1 bytes s (Ok xs) k h
-only_reading bytes (Err (Form n)) h s k = same_reading 1 bytes s (Err (Form n)) k h
-only_reading bytes (Err (Session n)) h s k = same_reading 1 bytes s (Err (Session n)) k h
-only_reading bytes (Err (Block n)) h s k = same_reading 1 bytes s (Err (Block n)) k h
+only_reading bytes (Ok xs) h = λ s k. same_reading 1 bytes s (Ok xs) k h
+only_reading bytes (Err (Form n)) h = λ s k. same_reading 1 bytes s (Err (Form n)) k h
+only_reading bytes (Err (Session n)) h = λ s k. same_reading 1 bytes s (Err (Session n)) k h
+only_reading bytes (Err (Block n)) h = λ s k. same_reading 1 bytes s (Err (Block n)) k h
 only_reading bytes (Err Memory) h = tt
 
 -- ---- one item, and what stands behind it

@@ -96,6 +96,7 @@ fn ordered<'a>(alloc: Global, number: u32, spelled: &Spelled, bytes: &'a [u8]) -
     requires { length bytes.now ≤ 16777216 }
     ensures leads { IfOk result (λ i. OrderLeadsOn number spelled.now.session spelled.now.order bytes.now (asked_in i.line) (number + i.lines) i.rest.now) }
     ensures short { IfOk result (λ i. i.lines + length i.rest.now ≤ length bytes.now + 1) }
+    ensures shorter { IfOk result (λ i. length i.rest.now ≤ length bytes.now) }
     ensures fault { IfErr result (λ e. FaultIs e (IsOrderReading number spelled.now.session spelled.now.order bytes.now)) }
 {
     if spelled.session > LAST_SESSION {
