@@ -123,13 +123,13 @@ value_end bytes v i h so = sym (ap (digits_value v) (drop_over bytes i h)) ∙ s
 pub position_some : (p : ℕ → Bool) (bytes : List ℕ) (at : ℕ) → Some at ≡ position p bytes → (nat_lt (position_or_len p bytes) (length bytes) ≡ true) × (position_or_len p bytes ≡ at)
 position_some p bytes at e =
     let F : Bool → Type 0 = λ t. nat_lt (position_or_len p bytes) (length bytes) ≡ t → Some at ≡ cond t (Some (position_or_len p bytes)) None
-        → (nat_lt (position_or_len p bytes) (length bytes) ≡ true) × (position_or_len p bytes ≡ at) in
+    → (nat_lt (position_or_len p bytes) (length bytes) ≡ true) × (position_or_len p bytes ≡ at) in
     (elim (nat_lt (position_or_len p bytes) (length bytes)) as F [ true ↦ (λ k h. (k, (let same : at ≡ position_or_len p bytes = cc in sym same))) | false ↦ (λ k h. absurd (cc)) ]) refl e
 
 pub position_none : (p : ℕ → Bool) (bytes : List ℕ) → None ≡ position p bytes → nat_lt (position_or_len p bytes) (length bytes) ≡ false
 position_none p bytes e =
     let F : Bool → Type 0 = λ t. nat_lt (position_or_len p bytes) (length bytes) ≡ t → None ≡ cond t (Some (position_or_len p bytes)) None
-        → nat_lt (position_or_len p bytes) (length bytes) ≡ false in
+    → nat_lt (position_or_len p bytes) (length bytes) ≡ false in
     (elim (nat_lt (position_or_len p bytes) (length bytes)) as F [ true ↦ (λ k h. absurd (let z : None ≡ Some (position_or_len p bytes) = h in cc)) | false ↦ (λ k h. k) ]) refl e
 
 pub below_of : (m n : ℕ) → nat_lt m n ≡ true → m < n

@@ -92,7 +92,12 @@ struct Item<'a> {
 }
 
 // The command of a line that is spelled right, with what stands behind the line.
-fn ordered<'a>(alloc: Global, number: u32, spelled: &Spelled, bytes: &'a [u8]) -> Result<Item<'a>, ScriptFault>
+fn ordered<'a>(
+    alloc: Global,
+    number: u32,
+    spelled: &Spelled,
+    bytes: &'a [u8],
+) -> Result<Item<'a>, ScriptFault>
     requires { length bytes.now ≤ 16777216 }
     ensures leads { IfOk result (λ i. OrderLeadsOn number spelled.now.session spelled.now.order bytes.now (asked_in i.line) (number + i.lines) i.rest.now) }
     ensures short { IfOk result (λ i. i.lines + length i.rest.now ≤ length bytes.now + 1) }

@@ -10,9 +10,7 @@ fn is_splice(command: &Command, version: u32, from: u32, to: u32, bytes: &[u8]) 
             from: f,
             to: t,
             block,
-        } => {
-            place.version == version && *f == from && *t == to && block.as_slice() == bytes
-        }
+        } => { place.version == version && *f == from && *t == to && block.as_slice() == bytes }
         _ => false,
     }
 }
@@ -68,7 +66,8 @@ fn reads_names(rt: HostRuntime) -> Result<(), Fail> {
 
 #[test]
 fn reads_scripts(rt: HostRuntime) -> Result<(), Fail> {
-    let bytes = b"# one\n0 open g\nqreg q[2];\r\n..\n.\n\n15 splice g 1 0 4294967295\r\n.\r\n3 ask phase 1 a 1\n3 ask phase a 1 b_2 2\n4 prove a 1 b 1\n4 retire a 1\n4 sum a 1\n4 show a 0";
+    let bytes =
+        b"# one\n0 open g\nqreg q[2];\r\n..\n.\n\n15 splice g 1 0 4294967295\r\n.\r\n3 ask phase 1 a 1\n3 ask phase a 1 b_2 2\n4 prove a 1 b 1\n4 retire a 1\n4 sum a 1\n4 show a 0";
     let Ok(script) = read(rt.alloc(), bytes.as_slice()) else {
         panic!(rt; "a script")
     };
@@ -111,9 +110,15 @@ fn finds_faults(rt: HostRuntime) -> Result<(), Fail> {
         (b"0 hide a 1", ScriptFault::Form(1)),
         (b"0 show a 1\n0 open g\n.\r", ScriptFault::Block(2)),
         (b"0 open g\n. \n.\n\n0 splice g 1 0", ScriptFault::Form(5)),
-        (b"0 ask phase 1 a 1\n0 ask phase phase 1 a", ScriptFault::Form(2)),
+        (
+            b"0 ask phase 1 a 1\n0 ask phase phase 1 a",
+            ScriptFault::Form(2),
+        ),
         (b"#\n\r\n0 sum a 1\n.\n", ScriptFault::Form(4)),
-        (b"0 show a 1\n1 open b\nx\n16 show a 1", ScriptFault::Block(2)),
+        (
+            b"0 show a 1\n1 open b\nx\n16 show a 1",
+            ScriptFault::Block(2),
+        ),
     ];
     for (bytes, wanted) in rows {
         match read(rt.alloc(), bytes) {

@@ -21,8 +21,8 @@ loop-rest-preserved c =
     let first = c.first_line-first in
     let i = c.loop-rest.invariant in (
       passed_more c.args.bytes.now c.loop-rest.lines c.loop-rest.rest.now first.result.rest.now i.0 some
-      (λ e. not_both c.eq.result ((slice_eq-Decides Decides-eqb first.result.line.now c.as_slice.result.now c.eq.result c.eq.ensures).1 (first.ensures.line ∙ e ∙ sym c.as_slice.ensures)) c.if-eq.false)
-      first.ensures.rest first.ensures.shorter,
+          (λ e. not_both c.eq.result ((slice_eq-Decides Decides-eqb first.result.line.now c.as_slice.result.now c.eq.result c.eq.ensures).1 (first.ensures.line ∙ e ∙ sym c.as_slice.ensures)) c.if-eq.false)
+          first.ensures.rest first.ensures.shorter,
       omega arith,
     )
 
