@@ -1,6 +1,6 @@
 //! Scripts: the commands of sessions, in order.
 
-ghost use Rattle.std.specs.Prelude.{◌≡◌};
+ghost use Rattle.std.specs.Prelude.{◌≡◌, ◌≤◌};
 
 use crate::command::Command;
 use std::marker::Model;
@@ -10,6 +10,7 @@ use std::marker::Model;
 pub struct Line {
     pub session: u32,
     pub command: Command,
+    ghost low: { session ≤ 15 },
 }
 
 /// Lines in order. Clauses see the list of them.
