@@ -46,8 +46,18 @@ def write_inputs(folder):
         put("ladder", k, two(2 * k - 1, known.ladder(k, False), known.ladder(k, True)))
     for bits in (2, 4, 8, 16, 31):
         put("adder", bits, two(2 * bits + 2, known.adder(bits, False), known.adder(bits, True)))
+    for bits in (2, 4, 8, 16, 28):
+        put("draper", bits, two(2 * bits, known.draper(bits, False), known.draper(bits, True)))
     for qubits in (4, 8, 16, 30):
         put("fourier", qubits, two(qubits, known.fourier(qubits, False), known.fourier(qubits, True)))
+    for bits in (4, 8, 16, 21):
+        put("multiplier", bits, two(3 * bits, known.multiplier(bits, False), known.multiplier(bits, True)))
+    for qubits in (4, 8, 16, 40):
+        put("shift", qubits, two(qubits, known.hidden_shift(qubits, False), known.hidden_shift(qubits, True)))
+    for qubits in (3, 4, 6, 10, 16):
+        put("grover", qubits, two(2 * qubits - 2, known.grover(qubits, False), known.grover(qubits, True)))
+    for gates in (500, 1000, 2000, 4000):
+        put("clifford", gates, two(32, known.clifford(32, gates, False), known.clifford(32, gates, True)))
     for gates in (250, 500, 1000, 2000):
         put("mirror", gates, two(20, known.mirror(20, gates, 1), []))
     for lines in (7_500, 15_000, 30_000, 60_000):
