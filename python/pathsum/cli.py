@@ -169,7 +169,7 @@ def _many(given: argparse.Namespace) -> int:
         _put_record({"schema": SCHEMA, "pairs": records, "counts": counts, "status": status})
     else:
         told = ", ".join(f"{count} {verdict}" for verdict, count in counts.items() if count)
-        _put(f"{len(pairs)} pairs: {told}")
+        _put(f"{len(pairs)} {'pair' if len(pairs) == 1 else 'pairs'}: {told}")
     return status
 
 

@@ -1,0 +1,75 @@
+"""What the README tells a newcomer to do works as it stands."""
+import re
+import shutil
+import subprocess
+import sys
+import tempfile
+import unittest
+from pathlib import Path
+
+import pathsum
+
+from .gates import ROOT
+
+
+def blocks(document, language):
+    return re.findall(rf"^```{language}\n(.*?)^```", (ROOT / document).read_text(), re.MULTILINE | re.DOTALL)
+
+
+class Readme(unittest.TestCase):
+    def setUp(self):
+        made = tempfile.TemporaryDirectory()
+        self.addCleanup(made.cleanup)
+        self.folder = Path(made.name) / "checkout"
+        self.folder.mkdir()
+        for name in ("tools", "python", "examples"):
+            shutil.copytree(ROOT / name, self.folder / name, ignore=shutil.ignore_patterns("__pycache__"))
+        program = self.folder / "pathsum"
+        program.write_text(f'#!/bin/sh\nexec "{pathsum.find_program().path}" "$@"\n')
+        program.chmod(0o755)
+        for folder in ("before", "after"):
+            (self.folder / folder).mkdir()
+            shutil.copy(ROOT / "examples/toffoli.qasm", self.folder / folder)
+        shutil.copy(ROOT / "examples/toffoli_by_hand.qasm", self.folder / "A.qasm")
+        shutil.copy(ROOT / "examples/toffoli.qasm", self.folder / "B.qasm")
+
+    def run_block(self, block):
+        child = subprocess.run(
+            ["bash", "-ec", block],
+            cwd=self.folder,
+            env={"PATH": f"{Path(sys.executable).parent}:/usr/local/bin:/usr/bin:/bin", "PATHSUM_PROGRAM": pathsum.find_program().path,
+                 "HOME": str(self.folder)},
+            capture_output=True,
+            text=True,
+        )
+        self.assertEqual(child.returncode, 0, child.stdout + child.stderr)
+        return child.stdout
+
+    def test_shell(self):
+        found = [self.run_block(block) for block in blocks("README.md", "sh")]
+        self.assertEqual(len(found), 3)
+        self.assertIn("no 100\n", found[0])
+        self.assertIn("accepted\n", found[1])
+        self.assertIn("1 pair: 1 yes\n", found[2])
+
+    def test_python(self):
+        found = blocks("README.md", "python")
+        self.assertEqual(len(found), 1)
+        child = subprocess.run([sys.executable, "-c", found[0]], cwd=ROOT / "python", capture_output=True, text=True)
+        self.assertEqual((child.returncode, child.stderr), (0, ""))
+        self.assertTrue(child.stdout.startswith("yes\n"))
+
+    def test_the_program_document(self):
+        lines = re.findall(r"^    (.*)$", (ROOT / "docs/PROGRAM.md").read_text(), re.MULTILINE)
+        printed = self.run_block("\n".join(lines))
+        self.assertTrue(printed.startswith("yes\npathsum 1\n") and printed.endswith("\nend\naccepted\n"))
+
+    def test_documents_that_are_named_are_there(self):
+        for document in [ROOT / "README.md", *ROOT.glob("docs/*.md"), *ROOT.glob("*/README.md")]:
+            for name in re.findall(r"\b((?:docs|tools|bench|python|examples|crates|dist|\.ci)/[\w./-]*\w)", document.read_text()):
+                if not re.match(r"crates/pathsum/out|crates/NAME", name):
+                    self.assertTrue((ROOT / name).exists() or name.startswith("dist/"), f"{document}: {name}")
+
+
+if __name__ == "__main__":
+    unittest.main()
