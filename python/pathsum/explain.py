@@ -74,8 +74,9 @@ def _of_no(answer: No) -> List[str]:
     if answer.behind:
         return [
             f"no {answer.input.bits} behind {answer.behind}",
-            f"The two circuits differ. Behind the first {answer.behind} items of both, the rest differs at the basis state "
-            f"{_each(answer.input)}; which input of the whole leads there was not asked.",
+            f"The two circuits differ: behind the first {answer.behind} items of both, at the basis state {_each(answer.input)}. "
+            "There is an input of the whole at which they differ, and it was not found.",
+            *([] if answer.phase is None else [_up_to(answer.phase)]),
         ]
     head = f"no {answer.input.bits}"
     if answer.question == "phase":

@@ -29,6 +29,7 @@ from .circuits import LONGEST, MARK, Circuit, circuit_of, read_file
 from .errors import CircuitError, PathsumError, ProgramError, TimeLimitError, TooLongError, UndecidedError
 from .faults import fault_of
 from .program import Reply, ask, find_program
+from .sharing import shared_of
 
 Source = Any
 """A circuit: a text, a path, a file's bytes, a `Circuit`, or an object with `qasm()`; see `circuit_of`."""
@@ -201,7 +202,7 @@ def with_phase(
 ) -> Answer:
     """A plain no, with the global phase up to which the circuits are one map after all, where they are and the program can
     tell; each other answer as it is."""
-    if not isinstance(answer, No) or answer.question == "phase" or answer.behind:
+    if not isinstance(answer, No) or answer.question == "phase":
         return answer
     try:
         again = same(first, second, phase=True, to_qasm=to_qasm, timeout=timeout, cancel=cancel)
@@ -219,26 +220,43 @@ def compare(
     cancel: Optional[threading.Event] = None,
 ) -> Union[Yes, No, Unknown]:
     """As `same`, in the way that answers most: first what the circuits do not share is asked about, where the program knows
-    that question, then the whole where an input is wanted; and behind a no whether a phase alone differs."""
+    that question, then the whole where an input is wanted or the rest stayed unknown; and behind a no whether a phase alone
+    differs. `timeout` is for all of it."""
     circuits = [circuit_of(first, "first circuit", to_qasm), circuit_of(second, "second circuit", to_qasm)]
-    how = {"timeout": _Remaining(timeout), "cancel": cancel}
-    answer = _compared(circuits, how)
-    return with_phase(answer, *circuits, timeout=how["timeout"].left(), cancel=cancel)  # type: ignore[return-value]
+    end = None if timeout is None else time.monotonic() + timeout
+
+    def left() -> Optional[float]:
+        return None if end is None else max(0.001, end - time.monotonic())
+
+    try:
+        answer = _of_the_rest(circuits, left(), cancel)
+    except NotKnownError:
+        answer = same(*circuits, timeout=timeout, cancel=cancel)
+    else:
+        if isinstance(answer, Unknown) and _is_part(answer) or isinstance(answer, No) and answer.behind:
+            answer = _of_the_whole(answer, circuits, left(), cancel)
+    return with_phase(answer, *circuits, timeout=left(), cancel=cancel)  # type: ignore[return-value]
 
 
-class _Remaining:
-    """What is left of a time limit."""
-
-    def __init__(self, timeout: Optional[float]) -> None:
-        self.end = None if timeout is None else time.monotonic() + timeout
-
-    def left(self) -> Optional[float]:
-        return None if self.end is None else max(0.0, self.end - time.monotonic())
+def _of_the_rest(circuits: List[Circuit], timeout: Optional[float], cancel: Optional[threading.Event]) -> Answer:
+    """What is found of the parts that the circuits do not share."""
+    asking = _Asking("local", tuple(circuits), timeout, cancel)
+    answer = asking.read(asking.ask(("same", "local")))
+    front = answer.behind if isinstance(answer, No) else None
+    return dataclasses.replace(answer, shared=shared_of(*circuits, front=front))
 
 
-def _compared(circuits: List[Circuit], how: Any) -> Answer:
-    # (where a program knows no local questions, the whole is asked at once)
-    return same(*circuits, timeout=how["timeout"].left(), cancel=how["cancel"])
+def _is_part(answer: Unknown) -> bool:
+    return answer.shared is None or answer.shared.front + answer.shared.back > 0
+
+
+def _of_the_whole(answer: Answer, circuits: List[Circuit], timeout: Optional[float], cancel: Any) -> Answer:
+    """The answer to the whole where it says more than that to the rest."""
+    try:
+        whole = same(*circuits, timeout=timeout, cancel=cancel)
+    except TimeLimitError:
+        return answer
+    return answer if isinstance(whole, Unknown) else dataclasses.replace(whole, shared=answer.shared)  # type: ignore[union-attr]
 
 
 def assert_same(
@@ -290,7 +308,7 @@ def same_many(
     cancel: Optional[threading.Event] = None,
     workers: Optional[int] = None,
 ) -> Iterator[Outcome]:
-    """Asks about many pairs, as many side by side as there are processors or as `workers` says, and gives what comes of each
+    """Compares many pairs, as many side by side as there are processors or as `workers` says, and gives what comes of each
     in the order of the pairs. `timeout` is that of one pair. A pair that has no answer stops no other."""
     given = list(pairs)
     stop = cancel if cancel is not None else threading.Event()
@@ -302,7 +320,10 @@ def same_many(
     def one(pair: Tuple[Source, Source]) -> Outcome:
         names = [_name(source, what) for source, what in zip(pair, ("first circuit", "second circuit"))]
         try:
-            answer = same(*pair, phase=phase, to_qasm=to_qasm, timeout=timeout, cancel=stop)
+            if phase:
+                answer: Answer = same(*pair, phase=True, to_qasm=to_qasm, timeout=timeout, cancel=stop)
+            else:
+                answer = compare(*pair, to_qasm=to_qasm, timeout=timeout, cancel=stop)
             return Outcome(names[0], names[1], answer, None)
         except PathsumError as error:
             return Outcome(names[0], names[1], None, error)

@@ -1,0 +1,162 @@
+"""Questions that only newer programs know: with one that doesn't, nothing is said of them; with a stand-in that does, the
+answers are read and told."""
+import os
+import sys
+import tempfile
+import unittest
+from fractions import Fraction
+from pathlib import Path
+from unittest import mock
+
+import pathsum
+from pathsum import program
+from pathsum.circuits import Circuit
+from pathsum.sharing import shared_of
+
+HEAD = 'OPENQASM 2.0;\ninclude "qelib1.inc";\nqreg q[2];\n'
+STAND_IN = """#!{python}
+import subprocess, sys
+given = sys.stdin.buffer.read()
+replies = {replies!r}
+words = " ".join(sys.argv[1:])
+if words in replies:
+    line, status = replies[words]
+    print(line)
+    sys.exit(status)
+sys.exit(subprocess.run([{program!r}, *sys.argv[1:]], input=given).returncode)
+"""
+
+
+def answers(*words):
+    """Whether the program knows these words."""
+    try:
+        return program.ask(words, (HEAD + "====\n" + HEAD).encode()).status != 64
+    except pathsum.PathsumError:
+        return False
+
+
+class StandIn(unittest.TestCase):
+    def stand_in(self, **replies):
+        folder = tempfile.TemporaryDirectory()
+        self.addCleanup(folder.cleanup)
+        real = program.find_program().path
+        known = {"same local": ("words", 64), "same phase": ("words", 64)}
+        known.update({words.replace("_", " "): reply for words, reply in replies.items()})
+        path = Path(folder.name, "stand_in")
+        path.write_text(STAND_IN.format(python=sys.executable, replies=known, program=real))
+        path.chmod(0o755)
+        patch = mock.patch.dict(os.environ, {program.VARIABLE: str(path)})
+        patch.start()
+        self.addCleanup(patch.stop)
+
+    def test_not_known(self):
+        self.stand_in()
+        answer = pathsum.compare(HEAD + "rx(pi) q[0];\n", HEAD + "x q[0];\n")
+        self.assertEqual((answer.line, answer.phase, answer.shared), ("no 00", None, None))
+        self.assertIn("exact maps", answer.explain())
+        with self.assertRaises(pathsum.NotKnownError):
+            pathsum.same(HEAD, HEAD, phase=True)
+
+    def test_phase(self):
+        self.stand_in(same_phase=("yes phase 3/4", 0))
+        answer = pathsum.compare(HEAD + "rx(pi) q[0];\n", HEAD + "x q[0];\n")
+        self.assertEqual((answer.line, answer.phase), ("no 00", Fraction(3, 4)))
+        self.assertIn("up to a global phase of 3/4 of a turn (3*pi/2)", answer.explain())
+        answer = pathsum.same(HEAD, HEAD, phase=True)
+        self.assertEqual((answer.question, answer.verdict, answer.phase), ("phase", "yes", Fraction(3, 4)))
+        pathsum.assert_same(HEAD + "rx(pi) q[0];\n", HEAD + "x q[0];\n", phase=True)
+
+    def test_phase_no(self):
+        for line, second in [("no 01 10", "10"), ("no 01", None)]:
+            self.stand_in(same_phase=(line, 1))
+            answer = pathsum.same(HEAD, HEAD, phase=True)
+            self.assertEqual((answer.input.bits, answer.second_input and answer.second_input.bits), ("01", second))
+            self.assertNotIn("exact maps", answer.explain())
+            self.assertEqual(pathsum.compare(HEAD + "x q[0];\n", HEAD).phase, None)
+
+    def test_local_yes(self):
+        self.stand_in(same_local=("yes", 0))
+        first, second = HEAD + "h q;\nx q[0];\nh q;\n", HEAD + "h q;\ny q[0];\nh q;\n"
+        answer = pathsum.compare(first, second)
+        self.assertEqual((answer.verdict, answer.question), ("yes", "local"))
+        self.assertEqual(answer.shared, pathsum.Shared(2, 2, (5, 5), (5, 5)))
+        self.assertIn("the first 2 and the last 2 items", answer.explain())
+        self.assertEqual(answer.to_json()["shared"]["first_lines"], [5, 5])
+
+    def test_local_no(self):
+        """An input of the whole is asked for; where that stays unknown, the state behind the front is told."""
+        self.stand_in(same_local=("no 10 behind 2", 1))
+        answer = pathsum.compare(HEAD + "x q;\nt q[0];\n", HEAD + "x q;\n")
+        self.assertEqual((answer.line, answer.behind, answer.shared.front), ("no 00", 0, 2))
+        self.stand_in(same_local=("no 10 behind 3", 1))
+        first = HEAD + "h q[0];\nt q[0];\nh q[0];\nx q[0];\n"
+        answer = pathsum.compare(first, HEAD + "h q[0];\nt q[0];\nh q[0];\n")
+        self.assertEqual((answer.verdict, answer.input.bits), ("no", answer.input.bits))
+
+    def test_local_unknown(self):
+        self.stand_in(same_local=("unknown passed terms 70000", 2))
+        self.assertEqual(pathsum.compare(HEAD + "x q;\ny q;\n", HEAD + "x q;\ny q;\n").verdict, "yes")
+        answer = pathsum.compare(HEAD + "x q;\nh q[0];\nt q[0];\nh q[0];\n", HEAD + "x q;\n")
+        self.assertEqual((answer.line, answer.shared.front), ("unknown passed terms 70000", 2))
+
+
+class Sharing(unittest.TestCase):
+    def shared(self, first, second, front=None):
+        return shared_of(Circuit("a", (HEAD + first).encode()), Circuit("b", (HEAD + second).encode()), front)
+
+    def test_parts(self):
+        Shared = pathsum.Shared
+        for first, second, wanted in [
+            ("", "", Shared(0, 0, (4, 3), (4, 3))),
+            ("x q;\n", "x q[0];\nx q[1];\n", Shared(2, 0, (5, 4), (6, 5))),
+            ("x q;\nh q[0];\n", "x q;\n", Shared(2, 0, (5, 5), (5, 4))),
+            ("x q[0];\n\nh q[1];\n// c\ny q;\n", "x q[0];\ny q;\n", Shared(1, 2, (6, 6), (5, 4))),
+            ("x q[0];\nx q[0];\n", "x q[0];\n", Shared(1, 0, (5, 5), (5, 4))),
+            ("rx(pi/2) q[0];\n", "rx(pi/4) q[0];\n", Shared(0, 0, (4, 4), (4, 4))),
+            ("gate g a { x a; }\ng q[0];\n", "gate g a { y a; }\ng q[0];\n", Shared(0, 0, (5, 5), (5, 5))),
+            ("gate g a { x a; }\ng q[0];\n", "gate g a { x a; }\ng q[0];\n", Shared(1, 0, (6, 5), (6, 5))),
+            ("barrier q;\nx q[0];\n", "x q[0];\n", Shared(1, 0, (6, 5), (5, 4))),
+            ("cx q[0],q[1];\n", "cx q[1],q[0];\n", Shared(0, 0, (4, 4), (4, 4))),
+        ]:
+            with self.subTest((first, second)):
+                self.assertEqual(self.shared(first, second), wanted)
+
+    def test_a_front_that_is_told(self):
+        self.assertEqual(self.shared("t q[0];\nx q[0];\n", "u1(pi/4) q[0];\ny q[0];\n", 1).first_lines, (5, 5))
+
+
+@unittest.skipUnless(answers("same", "phase"), "the program does not know these words yet")
+class Phase(unittest.TestCase):
+    def test_phases(self):
+        for first, second, phase in [
+            ("rx(pi) q[0];", "x q[0];", None),
+            ("sx q[0]; sx q[0];", "x q[0];", None),
+            ("x q[0];", "x q[0];", Fraction(0)),
+        ]:
+            with self.subTest(first):
+                answer = pathsum.same(HEAD + first, HEAD + second, phase=True)
+                self.assertEqual(answer.verdict, "yes")
+                if phase is not None:
+                    self.assertEqual(answer.phase, phase)
+                else:
+                    self.assertIn(answer.phase, (Fraction(1, 4), Fraction(3, 4)))
+                    self.assertEqual(pathsum.compare(HEAD + first, HEAD + second).phase, answer.phase)
+        self.assertEqual(pathsum.same(HEAD + "x q[0];", HEAD, phase=True).verdict, "no")
+        self.assertEqual(pathsum.compare(HEAD + "z q[0];", HEAD).phase, None)
+
+
+@unittest.skipUnless(answers("same", "local"), "the program does not know these words yet")
+class Local(unittest.TestCase):
+    def test_an_edit(self):
+        front, back = "h q;\nt q;\nh q;\n" * 40, "h q;\nt q;\n" * 40
+        answer = pathsum.compare(HEAD + front + "x q[0];\n" + back, HEAD + front + "h q[0];\nz q[0];\nh q[0];\n" + back)
+        self.assertEqual((answer.verdict, answer.question), ("yes", "local"))
+        self.assertEqual(answer.shared.first_lines, (124, 124))
+        answer = pathsum.compare(HEAD + front + "x q[0];\n" + back, HEAD + front + back)
+        self.assertEqual((answer.verdict, answer.behind), ("no", 240))
+        answer = pathsum.compare(HEAD + "x q[0];\n" + back, HEAD + back)
+        self.assertEqual((answer.verdict, answer.behind, answer.input.bits), ("no", 0, "00"))
+
+
+if __name__ == "__main__":
+    unittest.main()
