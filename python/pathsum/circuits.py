@@ -75,11 +75,11 @@ def decoded(data: bytes) -> bytes:
 
 
 def read_file(path: "os.PathLike[str] | str", what: str = "a circuit") -> bytes:
-    """The bytes of a file."""
+    """The bytes of a file; of one that is longer than the program reads, enough to tell that."""
     name = os.fspath(path)
     try:
         with open(name, "rb") as file:
-            return file.read()
+            return file.read(4 * LONGEST)
     except IsADirectoryError:
         raise UnreadableError(f"{name} is a directory, and {what} is a file") from None
     except FileNotFoundError:

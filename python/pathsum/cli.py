@@ -3,16 +3,19 @@ from __future__ import annotations
 
 import argparse
 import contextlib
+import errno
 import json
 import os
+import signal
 import sys
-from typing import Any, Dict, List, NoReturn, Optional, Sequence, TextIO
+import traceback
+from typing import Any, Dict, List, NoReturn, Optional, Sequence
 
 from . import batch, questions
 from .answers import Answer, Yes
-from .circuits import Circuit, decoded, read_file
-from .errors import Cancelled, CircuitError, PathsumError, UnreadableError, UsageError
-from .program import find_program, version_line
+from .circuits import LONGEST, Circuit, decoded, read_file
+from .errors import CircuitError, PathsumError, UnreadableError, UsageError
+from .program import version_line
 from .records import SCHEMA, error_record, record_of
 
 EPILOG = """exit status:
@@ -87,8 +90,17 @@ _count.__name__ = "number"
 
 def _circuit(path: str) -> Circuit:
     if path == "-":
-        return Circuit("standard input", decoded(sys.stdin.buffer.read()))
+        return Circuit("standard input", decoded(_standard_input()))
     return Circuit(path, decoded(read_file(path)))
+
+
+def _standard_input() -> bytes:
+    if sys.stdin is None:
+        raise UnreadableError("standard input is closed")
+    try:
+        return sys.stdin.buffer.read(LONGEST + 1)
+    except OSError as error:
+        raise UnreadableError(f"standard input can't be read: {error.strerror}") from None
 
 
 def _circuits(given: argparse.Namespace, *others: str) -> List[Circuit]:
@@ -109,23 +121,26 @@ def _asked(given: argparse.Namespace) -> Answer:
         return questions.with_phase(answer, *circuits, **how)
     circuits = _circuits(given, given.derivation)
     if given.derivation == "-":
-        return questions.replay(*circuits, sys.stdin.buffer.read(), **how)
+        return questions.replay(*circuits, _standard_input(), **how)
     return questions.replay(*circuits, read_file(given.derivation, "a derivation"), **how)
 
 
-def _is_coloured(stream: TextIO) -> bool:
-    return stream.isatty() and "NO_COLOR" not in os.environ and os.environ.get("TERM") != "dumb"
+def _is_coloured() -> bool:
+    is_terminal = sys.stdout is not None and sys.stdout.isatty()
+    return is_terminal and "NO_COLOR" not in os.environ and os.environ.get("TERM") != "dumb"
 
 
-def _coloured(verdict: str, text: str, stream: TextIO) -> str:
+def _coloured(verdict: str, text: str) -> str:
     """The text, with its first word in the verdict's colour on a terminal."""
-    if not _is_coloured(stream):
+    if not _is_coloured():
         return text
     word, space, rest = text.partition(" ") if " " in text.split("\n", 1)[0] else text.partition("\n")
     return f"\x1b[1;{COLOURS.get(verdict, '33')}m{word}\x1b[0m{space}{rest}"
 
 
 def _put(text: str) -> None:
+    if sys.stdout is None:
+        raise OSError(errno.EBADF, "standard output is closed")
     sys.stdout.write(text)
     if not text.endswith("\n"):
         sys.stdout.write("\n")
@@ -142,7 +157,7 @@ def _single(given: argparse.Namespace) -> int:
     elif isinstance(answer, Yes) and answer.derivation is not None:
         _put(answer.derivation)
     else:
-        _put(_coloured(answer.verdict, answer.explain(given.full), sys.stdout))
+        _put(_coloured(answer.verdict, answer.explain(given.full)))
     return answer.status
 
 
@@ -151,16 +166,21 @@ def _many(given: argparse.Namespace) -> int:
         raise UsageError("a batch takes a manifest, or two directories")
     pairs = batch.pairs_of(given.given)
     outcomes = []
-    shows = sys.stderr.isatty()
+    shows = sys.stderr is not None and sys.stderr.isatty()
     found = questions.same_many(pairs, phase=given.phase, timeout=given.timeout, workers=given.workers)
     with contextlib.closing(found):
         for number, outcome in enumerate(found, 1):
             outcomes.append(outcome)
             if shows:
-                sys.stderr.write(f"\r{number} of {len(pairs)}\x1b[K" + ("\r\x1b[K" if number == len(pairs) else ""))
+                # (what stands there goes before a line is written over it)
+                sys.stderr.write("\r\x1b[K")
                 sys.stderr.flush()
             if not given.json:
                 _put(_line(outcome))
+                sys.stdout.flush()
+            if shows and number < len(pairs):
+                sys.stderr.write(f"{number} of {len(pairs)} ..")
+                sys.stderr.flush()
     status = _batch_status(outcomes)
     verdicts = [outcome.verdict for outcome in outcomes]
     counts = {verdict: verdicts.count(verdict) for verdict in ("yes", "no", "unknown", "refused", "error")}
@@ -182,7 +202,7 @@ def _line(outcome: questions.Outcome) -> str:
         said = said if len(said) <= 100 else said[:97] + "..."
     else:
         said = str(outcome.error).split("\n", 1)[0]
-    return _coloured(outcome.verdict, f"{outcome.verdict:8}{files}{'  ' + said if said else ''}", sys.stdout)
+    return _coloured(outcome.verdict, f"{outcome.verdict:8}{files}{'  ' + said if said else ''}")
 
 
 def _outcome_record(outcome: questions.Outcome) -> Dict[str, Any]:
@@ -223,29 +243,57 @@ def _run(words: Sequence[str]) -> int:
         return _failed(error, as_json)
 
 
+def _complain(text: str) -> None:
+    with contextlib.suppress(OSError, AttributeError):
+        sys.stderr.write(text)
+
+
 def main(words: Optional[Sequence[str]] = None) -> int:
-    """Does what the words say, and gives the exit status."""
+    """Does what the words say, and gives the exit status. Whatever goes wrong, that is 64 or more: 1 and 2 are answers."""
     for stream in (sys.stdout, sys.stderr):
         if hasattr(stream, "reconfigure"):
             stream.reconfigure(errors="backslashreplace")
     try:
         status = _run(sys.argv[1:] if words is None else words)
-        sys.stdout.flush()
+        if sys.stdout is not None:
+            sys.stdout.flush()
         return status
     except BrokenPipeError:
         # whoever read the output has enough of it
-        os.dup2(os.open(os.devnull, os.O_WRONLY), 1)
+        _drop_output()
         return 67
     except OSError as error:
-        sys.stderr.write(f"pathsum: the output can't be written: {error.strerror}\n")
-        with contextlib.suppress(OSError):
-            os.dup2(os.open(os.devnull, os.O_WRONLY), 1)
+        _complain(f"pathsum: the output can't be written: {error.strerror}\n")
+        _drop_output()
         return 67
     except KeyboardInterrupt:
-        sys.stderr.write("\npathsum: interrupted\n")
+        _complain("\npathsum: interrupted\n")
         return 130
+    except Exception as error:  # noqa: B902 (a fault of this tool must not end with the status of an answer)
+        if os.environ.get("PATHSUM_TRACEBACK"):
+            raise SystemExit(_traced()) from None
+        said = str(error).replace("\n", " ") or "no more is known"
+        _complain(f"pathsum: a fault of this tool ({type(error).__name__}: {said}); PATHSUM_TRACEBACK=1 tells where\n")
+        return 70
+
+
+def _traced() -> int:
+    traceback.print_exc()
+    return 70
+
+
+def _drop_output() -> None:
+    """What is still to be written goes nowhere, so that the end of Python does not complain again."""
+    with contextlib.suppress(OSError):
+        os.dup2(os.open(os.devnull, os.O_WRONLY), 1)
+
+
+def _stopped(number: int, frame: Any) -> NoReturn:
+    raise SystemExit(128 + number)
 
 
 def entry() -> NoReturn:
-    """Where an installed command begins."""
+    """Where a command begins. A request to end it ends the program too."""
+    for number in (signal.SIGTERM, signal.SIGHUP):
+        signal.signal(number, _stopped)
     sys.exit(main())

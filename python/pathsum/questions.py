@@ -126,6 +126,8 @@ class _Asking:
             return ProgramError("the program ran out of memory")
         if reply.status < 0:
             return ProgramError(f"the program was ended by signal {-reply.status}, for want of memory perhaps")
+        if find_program().proved is False and reply.status == 70:
+            return ProgramError("there is no proved program here, and the unproved build gave no answer, as told above")
         complaint = reply.complaint.decode("utf-8", "replace").strip().split("\n")[-1]
         said = complaint or line[:200] or "nothing"
         return ProgramError(f"the program gave no answer: it ended with status {reply.status} and said: {said}")
@@ -223,6 +225,9 @@ def compare(
     that question, then the whole where an input is wanted or the rest stayed unknown; and behind a no whether a phase alone
     differs. `timeout` is for all of it."""
     circuits = [circuit_of(first, "first circuit", to_qasm), circuit_of(second, "second circuit", to_qasm)]
+    if find_program().proved is False:
+        # (each question would build the program once more)
+        return same(*circuits, timeout=timeout, cancel=cancel)
     end = None if timeout is None else time.monotonic() + timeout
 
     def left() -> Optional[float]:

@@ -182,7 +182,10 @@ class CommandLine(unittest.TestCase):
 
     def test_colours_on_a_terminal_alone(self):
         one, x, _ = self.files()
-        main, end = pty.openpty()
+        try:
+            main, end = pty.openpty()
+        except OSError:
+            self.skipTest("no terminal can be made here")
         environment = {**{key: value for key, value in os.environ.items() if key != "NO_COLOR"}, "TERM": "xterm"}
         words = [sys.executable, str(TOOL), "compare", str(one), str(x)]
         child = subprocess.run(words, stdout=end, env=environment)
@@ -191,7 +194,37 @@ class CommandLine(unittest.TestCase):
         self.assertTrue(os.read(main, 65536).startswith(b"\x1b[1;31mno\x1b[0m 0"))
         os.close(main)
 
+    def test_closed_streams(self):
+        one, *_ = self.files()
+        for closed, status in (("<&-", 66), (">&-", 67)):
+            child = subprocess.run(
+                ["bash", "-c", f'"$@" {closed}', "", sys.executable, str(TOOL), "compare", "-", str(one)],
+                input=ONE,
+                capture_output=True,
+                text=True,
+            )
+            self.assertEqual((child.returncode, child.stdout), (status, ""))
+            self.assertRegex(child.stderr, r"\Apathsum: [^\n]+ closed\n\Z")
+
+    def test_endless_files(self):
+        one, *_ = self.files()
+        self.assertEqual(run("compare", "/dev/zero", one)[0], 68)
+
+    def test_faults_of_the_tool_are_no_answers(self):
+        one, *_ = self.files()
+        broken = "import pathsum.cli as c; c._asked = lambda given: 1 // 0; c.entry()"
+        words = [sys.executable, "-c", broken, "compare", str(one), str(one)]
+        child = subprocess.run(words, cwd=ROOT / "python", capture_output=True, text=True)
+        self.assertEqual((child.returncode, child.stdout), (70, ""))
+        self.assertRegex(child.stderr, r"\Apathsum: a fault of this tool [^\n]+\n\Z")
+
     def test_an_interrupt_ends_the_program(self):
+        self.check_ending(signal.SIGINT, 130, b"\npathsum: interrupted\n")
+
+    def test_a_request_to_end_ends_the_program(self):
+        self.check_ending(signal.SIGTERM, 143, b"")
+
+    def check_ending(self, number, status, said):
         one, *_ = self.files()
         slow = self.file("slow", "#!/bin/sh\necho $$ >" + str(self.folder / "pid") + "\nexec sleep 60\n")
         slow.chmod(0o755)
@@ -203,9 +236,9 @@ class CommandLine(unittest.TestCase):
         while time.monotonic() < end and not (self.folder / "pid").exists():
             time.sleep(0.05)
         time.sleep(0.2)
-        child.send_signal(signal.SIGINT)
+        child.send_signal(number)
         complaint = child.communicate(timeout=20)[1]
-        self.assertEqual((child.returncode, complaint), (130, b"\npathsum: interrupted\n"))
+        self.assertEqual((child.returncode, complaint), (status, said))
         pid = int((self.folder / "pid").read_text())
         with self.assertRaises(ProcessLookupError):
             os.kill(pid, 0)
