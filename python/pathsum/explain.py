@@ -152,14 +152,21 @@ def _told(remaining: RemainingSum, full: bool) -> str:
 
 
 def _of_sum(remaining: RemainingSum) -> List[str]:
-    lines = [
-        f"What is left is a sum over m={remaining.variables} path variables y0, y1, .. that are 0 or 1, divided by the root "
-        f"of 2 to the k={remaining.scale}; P is the phase of each summand in turns, in {remaining.terms:,} "
-        f"{'term' if remaining.terms == 1 else 'terms'} of inputs x and path variables y; f=- says that no output is left.",
-    ]
+    terms = f"{remaining.terms:,} {'term' if remaining.terms == 1 else 'terms'}"
+    if remaining.variables:
+        what = (
+            f"What is left is a sum over m={remaining.variables} path variables y0, y1, .. that are 0 or 1, divided by the root "
+            f"of 2 to the k={remaining.scale}; P is the phase of each summand in turns, in {terms} of inputs x and path "
+            "variables y; f=- says that no output is left."
+        )
+    else:
+        what = (
+            f"What is left is a phase P in turns, in {terms} of inputs x, divided by the root of 2 to the k={remaining.scale}, "
+            "with no path variable (m=0) and no output (f=-)."
+        )
     if len(remaining.text) > SHORT:
-        lines.append(f"It is {len(remaining.text):,} bytes long; --full prints it whole.")
-    return lines
+        return [what, f"It is {len(remaining.text):,} bytes long; --full prints it whole."]
+    return [what]
 
 
 def _span(lines: Tuple[int, int]) -> str:

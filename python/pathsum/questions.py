@@ -9,7 +9,7 @@ import time
 from concurrent.futures import ThreadPoolExecutor
 from dataclasses import dataclass
 from fractions import Fraction
-from typing import Any, Callable, Iterable, Iterator, List, Optional, Tuple, Union
+from typing import Any, Callable, Iterable, Iterator, List, Optional, Tuple, Type, TypeVar, Union, cast
 
 from .answers import (
     LIMITS,
@@ -21,12 +21,11 @@ from .answers import (
     No,
     Rejected,
     RemainingSum,
-    Shared,
     Unknown,
     Yes,
 )
 from .circuits import LONGEST, MARK, Circuit, circuit_of, read_file
-from .errors import CircuitError, PathsumError, ProgramError, TimeLimitError, TooLongError, UndecidedError
+from .errors import CircuitError, PathsumError, ProgramError, TimeLimitError, TooLongError
 from .faults import fault_of
 from .program import Reply, ask, find_program
 from .sharing import shared_of
@@ -34,6 +33,10 @@ from .sharing import shared_of
 Source = Any
 """A circuit: a text, a path, a file's bytes, a `Circuit`, or an object with `qasm()`; see `circuit_of`."""
 ToQasm = Optional[Callable[[Any], str]]
+
+Verdict = Union[Yes, No, Unknown]
+Replayed = Union[Accepted, Rejected, Left]
+Found = TypeVar("Found", bound=Answer)
 
 REFUSED = re.compile(r"input ([A-Za-z]+) ([0-9]+):([0-9]+)")
 NO = re.compile(r"no ([01]+)(?: ([01]+))?(?: behind ([0-9]+))?")
@@ -62,7 +65,7 @@ class _Asking:
             raise TooLongError(f"the circuits together have {len(given):,} bytes, and at most {LONGEST:,} are read")
         return ask(words, given, self.timeout, self.cancel)
 
-    def answer(self, kind: Any, reply: Reply, line: str, **fields: Any) -> Any:
+    def answer(self, kind: Type[Found], reply: Reply, line: str, **fields: Any) -> Found:
         first, second = (circuit.name for circuit in self.circuits)
         return kind(self.question, first, second, line, find_program().proved, reply.seconds, **fields)
 
@@ -77,26 +80,26 @@ class _Asking:
         if reply.status == 1 and REJECTED.fullmatch(line):
             return self._rejected(reply, line, derivation)
         if reply.status == 2 and line.startswith("left "):
-            return self.answer(Left, reply, line, remaining=RemainingSum.of(line[len("left ") :]))  # type: ignore[no-any-return]
+            return self.answer(Left, reply, line, remaining=RemainingSum.of(line[len("left ") :]))
         if reply.status == 2 and line.startswith("unknown stuck "):
             remaining = RemainingSum.of(line[len("unknown stuck ") :])
-            return self.answer(Unknown, reply, line, remaining=remaining)  # type: ignore[no-any-return]
+            return self.answer(Unknown, reply, line, remaining=remaining)
         passed = PASSED.fullmatch(line)
         if reply.status == 2 and passed:
             limit = Limit(passed[1], int(passed[2]), LIMITS[passed[1]])
-            return self.answer(Unknown, reply, line, limit=limit)  # type: ignore[no-any-return]
+            return self.answer(Unknown, reply, line, limit=limit)
         raise self._no_answer(reply, line)
 
     def _agreed(self, reply: Reply, text: str, line: str) -> Answer:
         if line == "accepted":
-            return self.answer(Accepted, reply, line)  # type: ignore[no-any-return]
+            return self.answer(Accepted, reply, line)
         phase = PHASE.fullmatch(line)
         if phase:
-            return self.answer(Yes, reply, line, phase=Fraction(phase[1]))  # type: ignore[no-any-return]
+            return self.answer(Yes, reply, line, phase=Fraction(phase[1]))
         if self.question == "prove" and line.startswith("pathsum "):
-            return self.answer(Yes, reply, line, derivation=text)  # type: ignore[no-any-return]
+            return self.answer(Yes, reply, line, derivation=text)
         if line == "yes":
-            return self.answer(Yes, reply, line)  # type: ignore[no-any-return]
+            return self.answer(Yes, reply, line)
         raise self._no_answer(reply, line)
 
     def _differ(self, reply: Reply, line: str) -> Answer:
@@ -105,14 +108,14 @@ class _Asking:
         qubits = self.circuits[0].qubits
         second = Input(found[2], qubits) if found[2] else None
         behind = int(found[3] or 0)
-        return self.answer(No, reply, line, input=Input(found[1], qubits), second_input=second, behind=behind)  # type: ignore[no-any-return]
+        return self.answer(No, reply, line, input=Input(found[1], qubits), second_input=second, behind=behind)
 
     def _rejected(self, reply: Reply, line: str, derivation: bytes) -> Answer:
         found = REJECTED.fullmatch(line)
         assert found
         number, lines = int(found[1]), derivation.split(b"\n")
         source = lines[number - 1].decode("utf-8", "replace") if number <= len(lines) else ""
-        return self.answer(Rejected, reply, line, number=number, reason=found[2], source=source)  # type: ignore[no-any-return]
+        return self.answer(Rejected, reply, line, number=number, reason=found[2], source=source)
 
     def _no_answer(self, reply: Reply, line: str) -> PathsumError:
         refused = REFUSED.fullmatch(line)
@@ -146,14 +149,14 @@ def same(
     to_qasm: ToQasm = None,
     timeout: Optional[float] = None,
     cancel: Optional[threading.Event] = None,
-) -> Union[Yes, No, Unknown]:
+) -> Verdict:
     """Whether two circuits are one linear map: exactly, or with `phase` up to a global phase.
 
     A circuit is an OpenQASM 2.0 text, a path, or an object with a method `qasm()`; `to_qasm` makes a text of any other
     object. After `timeout` seconds, or once the event `cancel` is set, the program is ended. Raises CircuitError where a
     text is refused, and another PathsumError where there is no answer."""
     asking = _asking("phase" if phase else "same", first, second, to_qasm, timeout, cancel)
-    return asking.read(asking.ask(("same", "phase") if phase else ("same",)))  # type: ignore[return-value]
+    return cast(Verdict, asking.read(asking.ask(("same", "phase") if phase else ("same",))))
 
 
 def prove(
@@ -163,10 +166,10 @@ def prove(
     to_qasm: ToQasm = None,
     timeout: Optional[float] = None,
     cancel: Optional[threading.Event] = None,
-) -> Union[Yes, No, Unknown]:
+) -> Verdict:
     """As `same`; a yes has the derivation that shows it."""
     asking = _asking("prove", first, second, to_qasm, timeout, cancel)
-    return asking.read(asking.ask(("prove",)))  # type: ignore[return-value]
+    return cast(Verdict, asking.read(asking.ask(("prove",))))
 
 
 def replay(
@@ -177,12 +180,12 @@ def replay(
     to_qasm: ToQasm = None,
     timeout: Optional[float] = None,
     cancel: Optional[threading.Event] = None,
-) -> Union[Accepted, Rejected, Left]:
+) -> Replayed:
     """Whether a derivation shows that two circuits are one linear map, whoever wrote it. It is a text (which has a line
     end), a path, or a Yes of `prove`."""
     asking = _asking("replay", first, second, to_qasm, timeout, cancel)
     data = _derivation(derivation)
-    return asking.read(asking.ask(("replay",), data), data)  # type: ignore[return-value]
+    return cast(Replayed, asking.read(asking.ask(("replay",), data), data))
 
 
 def _derivation(given: Any) -> bytes:
@@ -220,7 +223,7 @@ def compare(
     to_qasm: ToQasm = None,
     timeout: Optional[float] = None,
     cancel: Optional[threading.Event] = None,
-) -> Union[Yes, No, Unknown]:
+) -> Verdict:
     """As `same`, in the way that answers most: first what the circuits do not share is asked about, where the program knows
     that question, then the whole where an input is wanted or the rest stayed unknown; and behind a no whether a phase alone
     differs. `timeout` is for all of it."""
@@ -240,13 +243,13 @@ def compare(
     else:
         if isinstance(answer, Unknown) and _is_part(answer) or isinstance(answer, No) and answer.behind:
             answer = _of_the_whole(answer, circuits, left(), cancel)
-    return with_phase(answer, *circuits, timeout=left(), cancel=cancel)  # type: ignore[return-value]
+    return cast(Verdict, with_phase(answer, *circuits, timeout=left(), cancel=cancel))
 
 
-def _of_the_rest(circuits: List[Circuit], timeout: Optional[float], cancel: Optional[threading.Event]) -> Answer:
+def _of_the_rest(circuits: List[Circuit], timeout: Optional[float], cancel: Optional[threading.Event]) -> Verdict:
     """What is found of the parts that the circuits do not share."""
     asking = _Asking("local", tuple(circuits), timeout, cancel)
-    answer = asking.read(asking.ask(("same", "local")))
+    answer = cast(Verdict, asking.read(asking.ask(("same", "local"))))
     front = answer.behind if isinstance(answer, No) else None
     return dataclasses.replace(answer, shared=shared_of(*circuits, front=front))
 
@@ -255,13 +258,13 @@ def _is_part(answer: Unknown) -> bool:
     return answer.shared is None or answer.shared.front + answer.shared.back > 0
 
 
-def _of_the_whole(answer: Answer, circuits: List[Circuit], timeout: Optional[float], cancel: Any) -> Answer:
+def _of_the_whole(answer: Verdict, circuits: List[Circuit], timeout: Optional[float], cancel: Any) -> Verdict:
     """The answer to the whole where it says more than that to the rest."""
     try:
         whole = same(*circuits, timeout=timeout, cancel=cancel)
     except TimeLimitError:
         return answer
-    return answer if isinstance(whole, Unknown) else dataclasses.replace(whole, shared=answer.shared)  # type: ignore[union-attr]
+    return answer if isinstance(whole, Unknown) else dataclasses.replace(whole, shared=answer.shared)
 
 
 def assert_same(
@@ -352,16 +355,3 @@ def _name(source: Source, what: str) -> str:
         return os.fsdecode(os.fspath(source))
     return what
 
-
-__all__ = [
-    "Outcome",
-    "NotKnownError",
-    "Shared",
-    "UndecidedError",
-    "assert_same",
-    "compare",
-    "prove",
-    "replay",
-    "same",
-    "same_many",
-]
