@@ -8,6 +8,7 @@ import unittest
 from pathlib import Path
 
 import pathsum
+from pathsum.program import ask
 
 from .gates import ROOT
 
@@ -63,6 +64,21 @@ class Readme(unittest.TestCase):
         lines = re.findall(r"^    (.*)$", (ROOT / "docs/PROGRAM.md").read_text(), re.MULTILINE)
         printed = self.run_block("\n".join(lines))
         self.assertTrue(printed.startswith("yes\npathsum 1\n") and printed.endswith("\nend\naccepted\n"))
+
+    def test_the_examples(self):
+        """Each example has the answer that its table tells."""
+        rows = re.findall(r"^\| (\w+) \| .* \| `([^`]*)` \|$", (ROOT / "examples/README.md").read_text(), re.MULTILINE)
+        self.assertEqual({name for name, _ in rows}, {path.stem for path in (ROOT / "examples").glob("*.pair")})
+        for name, answer in rows:
+            with self.subTest(name):
+                given = (ROOT / f"examples/{name}.pair").read_bytes()
+                self.assertEqual(ask(["same"], given).output.decode(), answer + "\n")
+        rows = re.findall(r"^\| (\w+), (\w+) \| .* \| `([^`]*)` \|$", (ROOT / "examples/README.md").read_text(), re.MULTILINE)
+        self.assertGreaterEqual(len(rows), 4)
+        for first, second, answer in rows:
+            with self.subTest(first):
+                files = [ROOT / f"examples/{name}.qasm" for name in (first, second)]
+                self.assertEqual(pathsum.same(*files).line, answer)
 
     def test_documents_that_are_named_are_there(self):
         for document in [ROOT / "README.md", *ROOT.glob("docs/*.md"), *ROOT.glob("*/README.md")]:
