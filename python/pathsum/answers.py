@@ -210,6 +210,8 @@ class Shared:
     back: int
     """So many items behind."""
     first_lines: Tuple[int, int]
-    """The first and last line of the first file that has an item of the rest; the second is one less where none has."""
+    """The first and last line of the first file that has an item of the rest; (0, -1) where none has."""
     second_lines: Tuple[int, int]
     """The same of the second file."""
+    exchanged: bool = False
+    """Whether gates on different qubits are exchanged for that; without, the front and the back are as they stand."""

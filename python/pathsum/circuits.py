@@ -9,7 +9,7 @@ from typing import Any, Callable, Optional, Tuple
 
 from .answers import Qubit
 from .errors import UnreadableError, UsageError
-from .reading import Register, Text, registers_of
+from .reading import Register, registers_of
 
 MARK = b"===="
 LONGEST = 16_777_216
@@ -40,11 +40,6 @@ class Circuit:
     def qubits(self) -> Tuple[Qubit, ...]:
         """The qubits of an accepted text, in the order in which the program numbers them."""
         return tuple(Qubit(register.name, at) for register in self.registers for at in range(register.size))
-
-    @cached_property
-    def text(self) -> Text:
-        """The text cut into statements, which takes a second for a million bytes or so."""
-        return Text(self.data)
 
     @property
     def joined(self) -> bytes:

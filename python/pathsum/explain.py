@@ -172,12 +172,13 @@ def _of_sum(remaining: RemainingSum) -> List[str]:
 def _span(lines: Tuple[int, int]) -> str:
     first, last = lines
     if last < first:
-        return f"nothing before line {first}"
+        return "nothing"
     return f"line {first}" if first == last else f"lines {first} to {last}"
 
 
 def _of_shared(answer: Answer, shared: Shared) -> str:
+    how = ", once gates on different qubits are exchanged" if shared.exchanged else ""
     return (
-        f"Alike are the first {shared.front} and the last {shared.back} items; between them {answer.first} has "
-        f"{_span(shared.first_lines)}, and {answer.second} {_span(shared.second_lines)}."
+        f"Alike are {shared.front} items in front and {shared.back} behind{how}; what is left is {_span(shared.first_lines)} of "
+        f"{answer.first}, and {_span(shared.second_lines)} of {answer.second}."
     )

@@ -251,7 +251,7 @@ def _of_the_rest(circuits: List[Circuit], timeout: Optional[float], cancel: Opti
     asking = _Asking("local", tuple(circuits), timeout, cancel)
     answer = cast(Verdict, asking.read(asking.ask(("same", "local"))))
     front = answer.behind if isinstance(answer, No) else None
-    return dataclasses.replace(answer, shared=shared_of(*circuits, front=front))
+    return dataclasses.replace(answer, shared=shared_of(*circuits, told=front))
 
 
 def _is_part(answer: Unknown) -> bool:

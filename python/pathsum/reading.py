@@ -4,7 +4,7 @@ from __future__ import annotations
 
 import re
 from dataclasses import dataclass
-from typing import Iterator, List, Optional, Sequence, Set, Tuple
+from typing import List, Optional, Sequence, Set, Tuple
 
 TOKEN = re.compile(
     rb"(?P<space>[ \t\r\n]+|//[^\n]*)"
@@ -54,14 +54,6 @@ class Register:
     size: int
 
 
-@dataclass(frozen=True)
-class Statement:
-    """A statement at the top level: its tokens, and the items that it comes to (0 where it applies no gate)."""
-
-    tokens: Tuple[Token, ...]
-    items: int
-
-
 QREG = re.compile(rb"\bqreg\s+([a-z][A-Za-z0-9_]*)\s*\[\s*([0-9]+)\s*\]")
 
 
@@ -72,68 +64,19 @@ def registers_of(data: bytes) -> Tuple[Register, ...]:
 
 
 class Text:
-    """A text, cut into statements. On an accepted text all of this is right; on another one it is as far as it goes."""
+    """What an explanation needs of a text; on one that is not accepted, as far as that goes."""
 
     def __init__(self, data: bytes) -> None:
         self.data = data
         self.tokens = tokens(data)
-        self.registers: List[Register] = []
-        self.gates: Set[str] = set()
-        self.includes_library = False
-        self.statements: List[Statement] = []
-        for part in self._parts():
-            self.statements.append(Statement(tuple(part), self._take(part)))
-
-    def _parts(self) -> Iterator[List[Token]]:
-        part: List[Token] = []
-        depth = 0
-        for token in self.tokens:
-            part.append(token)
-            depth += (token.text == "{") - (token.text == "}")
-            if depth <= 0 and token.text in (";", "}"):
-                yield part
-                part, depth = [], 0
-        if part:
-            yield part
-
-    def _take(self, part: Sequence[Token]) -> int:
-        first = part[0].text
-        if first == "qreg" and len(part) > 3 and part[3].is_whole():
-            self.registers.append(Register(part[1].text, int(part[3].text)))
-        elif first == "include":
-            self.includes_library = True
-        elif first == "gate" and len(part) > 1:
-            self.gates.add(part[1].text)
-        if first == "OPENQASM" or first in STATEMENTS:
-            return 0
-        return self._places(part)
-
-    def _places(self, part: Sequence[Token]) -> int:
-        """To how many places a gate is applied: the size of its whole registers, or 1."""
-        sizes = {register.name: register.size for register in self.registers}
-        depth, places = 0, 1
-        for at, token in enumerate(part[1:], 1):
-            depth += (token.text == "(") - (token.text == ")")
-            behind = part[at + 1].text if at + 1 < len(part) else ""
-            if depth == 0 and token.text in sizes and behind != "[":
-                places = max(places, sizes[token.text])
-        return places
-
-    @property
-    def items(self) -> int:
-        return sum(statement.items for statement in self.statements)
+        self.registers = registers_of(data)
+        words = [token.text for token in self.tokens]
+        self.gates = {name for word, name in zip(words, words[1:]) if word == "gate"}
+        self.includes_library = "include" in words
 
     def names(self) -> Set[str]:
         """All names that the text declares."""
         return self.gates | {register.name for register in self.registers}
-
-    def line_of(self, item: int) -> int:
-        """The line, counted from 1, of the statement that has an item; past the last item, of the end of the text."""
-        for statement in self.statements:
-            if item < statement.items:
-                return self.data.count(b"\n", 0, statement.tokens[0].start) + 1
-            item -= statement.items
-        return self.data.rstrip().count(b"\n") + 1
 
 
 class _Stopped(Exception):

@@ -63,6 +63,7 @@ def _shared(shared: Optional[Shared]) -> Optional[Dict[str, Any]]:
         "back": shared.back,
         "first_lines": list(shared.first_lines),
         "second_lines": list(shared.second_lines),
+        "exchanged": shared.exchanged,
     }
 
 

@@ -80,7 +80,7 @@ class StandIn(unittest.TestCase):
         answer = pathsum.compare(first, second)
         self.assertEqual((answer.verdict, answer.question), ("yes", "local"))
         self.assertEqual(answer.shared, pathsum.Shared(2, 2, (5, 5), (5, 5)))
-        self.assertIn("the first 2 and the last 2 items", answer.explain())
+        self.assertIn("2 items in front and 2 behind", answer.explain())
         self.assertEqual(answer.to_json()["shared"]["first_lines"], [5, 5])
 
     def test_local_no(self):
@@ -101,28 +101,38 @@ class StandIn(unittest.TestCase):
 
 
 class Sharing(unittest.TestCase):
-    def shared(self, first, second, front=None):
-        return shared_of(Circuit("a", (HEAD + first).encode()), Circuit("b", (HEAD + second).encode()), front)
+    def shared(self, first, second, told=None):
+        return shared_of(Circuit("a", (HEAD + first).encode()), Circuit("b", (HEAD + second).encode()), told)
 
     def test_parts(self):
-        Shared = pathsum.Shared
+        none = (0, -1)
         for first, second, wanted in [
-            ("", "", Shared(0, 0, (4, 3), (4, 3))),
-            ("x q;\n", "x q[0];\nx q[1];\n", Shared(2, 0, (5, 4), (6, 5))),
-            ("x q;\nh q[0];\n", "x q;\n", Shared(2, 0, (5, 5), (5, 4))),
-            ("x q[0];\n\nh q[1];\n// c\ny q;\n", "x q[0];\ny q;\n", Shared(1, 2, (6, 6), (5, 4))),
-            ("x q[0];\nx q[0];\n", "x q[0];\n", Shared(1, 0, (5, 5), (5, 4))),
-            ("rx(pi/2) q[0];\n", "rx(pi/4) q[0];\n", Shared(0, 0, (4, 4), (4, 4))),
-            ("gate g a { x a; }\ng q[0];\n", "gate g a { y a; }\ng q[0];\n", Shared(0, 0, (5, 5), (5, 5))),
-            ("gate g a { x a; }\ng q[0];\n", "gate g a { x a; }\ng q[0];\n", Shared(1, 0, (6, 5), (6, 5))),
-            ("barrier q;\nx q[0];\n", "x q[0];\n", Shared(1, 0, (6, 5), (5, 4))),
-            ("cx q[0],q[1];\n", "cx q[1],q[0];\n", Shared(0, 0, (4, 4), (4, 4))),
+            ("", "", (0, 0, none, none, False)),
+            ("x q;\n", "x q[0];\nx q[1];\n", (2, 0, none, none, False)),
+            ("x q;\nh q[0];\n", "x q;\n", (2, 0, (5, 5), none, False)),
+            ("x q[0];\n\nh q[1];\n// c\ny q;\n", "x q[0];\ny q;\n", (1, 2, (6, 6), none, False)),
+            ("x q[0];\nx q[0];\n", "x q[0];\n", (1, 0, (5, 5), none, False)),
+            ("rx(pi/2) q[0];\n", "rx(pi/4) q[0];\n", (0, 0, (4, 4), (4, 4), False)),
+            ("gate g a { x a; }\ng q[0];\n", "gate g a { y a; }\ng q[0];\n", (0, 0, (5, 5), (5, 5), False)),
+            ("gate g a { x a; }\ng q[0];\n", "gate g a { x a; }\ng q[0];\n", (1, 0, none, none, False)),
+            ("gate g a { y a; }\nx q[0];\ng q[0];\n", "x q[0];\ny q[0];\n", (1, 0, (6, 6), (5, 5), False)),
+            ("gate x a { y a; }\nx q[0];\n", "x q[0];\n", (0, 0, (5, 5), (4, 4), False)),
+            ("barrier q;\nx q[0];\n", "x q[0];\n", (1, 0, none, none, False)),
+            ("cx q[0],q[1];\n", "cx q[1],q[0];\n", (0, 0, (4, 4), (4, 4), False)),
+            ("x q[0];\ny q[1];\n", "y q[1];\nx q[0];\n", (2, 0, none, none, True)),
+            ("x q[0];\ny q[1];\ncx q[0],q[1];\nt q[0];\nh q;\n", "y q[1];\nx q[0];\ncx q[0],q[1];\ns q[0];\nh q[1];\nh q[0];\n",
+             (4, 1, (7, 7), (7, 7), True)),
+            ("x q[0];\ncx q[0],q[1];\n", "cx q[0],q[1];\nx q[0];\n", (0, 0, (4, 5), (4, 5), False)),
         ]:
             with self.subTest((first, second)):
-                self.assertEqual(self.shared(first, second), wanted)
+                self.assertEqual(self.shared(first, second), pathsum.Shared(*wanted))
 
     def test_a_front_that_is_told(self):
-        self.assertEqual(self.shared("t q[0];\nx q[0];\n", "u1(pi/4) q[0];\ny q[0];\n", 1).first_lines, (5, 5))
+        """The front that the program told is as the items stand, or after exchanges, or nothing is told of lines."""
+        first, second = "x q[0];\ny q[1];\nt q[0];\n", "y q[1];\nx q[0];\ns q[0];\n"
+        self.assertEqual(self.shared(first, second, 2), pathsum.Shared(2, 0, (6, 6), (6, 6), True))
+        self.assertEqual(self.shared(first, second, 0), pathsum.Shared(0, 0, (4, 6), (4, 6), False))
+        self.assertIsNone(self.shared(first, second, 1))
 
 
 @unittest.skipUnless(answers("same", "phase"), "the program does not know these words yet")
