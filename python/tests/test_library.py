@@ -92,14 +92,24 @@ class Document(unittest.TestCase):
             self.assertIn(body, " ".join(document.split()))
 
     def test_the_table_of_phases(self):
-        """Each row of the table has the verdict that it tells."""
+        """Each row of the table has the verdict that it tells, and the phase that its matrices have."""
         document = (ROOT / "docs/VERDICTS.md").read_text()
-        rows = re.findall(r"^\| `([^|]*)` \| `([^|]*)` \| (yes|no)", document, re.MULTILINE)
-        self.assertGreaterEqual(len(rows), 8)
-        for first, second, verdict in rows:
+        rows = re.findall(r"^\| `([^|]*)` \| `([^|]*)` \| (yes|no)(.*) \|$", document, re.MULTILINE)
+        self.assertGreaterEqual(len(rows), 12)
+        for first, second, verdict, told in rows:
             with self.subTest((first, second)):
                 texts = [f"{HEAD}qreg q[2];\n{'' if each == 'nothing' else each}\n" for each in (first, second)]
                 self.assertEqual(pathsum.same(*texts).verdict, verdict)
+                factor = matrices.phase_between(*map(of_text, texts))
+                phase = re.search(r"with (\d+)/(\d+) of a turn", told)
+                if phase:
+                    turn = 2 * math.pi * int(phase[1]) / int(phase[2])
+                    self.assertAlmostEqual(factor, complex(math.cos(turn), math.sin(turn)))
+                elif verdict == "no":
+                    self.assertIn("no phase of the whole", told)
+                    self.assertIsNone(factor)
+                else:
+                    self.assertAlmostEqual(factor, 1)
 
 
 if __name__ == "__main__":

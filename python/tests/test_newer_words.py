@@ -139,18 +139,17 @@ class Sharing(unittest.TestCase):
 class Phase(unittest.TestCase):
     def test_phases(self):
         for first, second, phase in [
-            ("rx(pi) q[0];", "x q[0];", None),
-            ("sx q[0]; sx q[0];", "x q[0];", None),
-            ("x q[0];", "x q[0];", Fraction(0)),
+            ("rx(pi) q[0];", "x q[0];", "1/4"),
+            ("sx q[0]; sx q[0];", "x q[0];", "1/4"),
+            ("u3(2*pi,0,0) q[0];", "", "1/2"),
+            ("", "h q[0]; s q[0]; h q[0]; s q[0]; h q[0]; s q[0];", "1/8"),
+            ("x q[0];", "x q[0];", "0"),
         ]:
-            with self.subTest(first):
+            with self.subTest((first, second)):
                 answer = pathsum.same(HEAD + first, HEAD + second, phase=True)
-                self.assertEqual(answer.verdict, "yes")
-                if phase is not None:
-                    self.assertEqual(answer.phase, phase)
-                else:
-                    self.assertIn(answer.phase, (Fraction(1, 4), Fraction(3, 4)))
-                    self.assertEqual(pathsum.compare(HEAD + first, HEAD + second).phase, answer.phase)
+                self.assertEqual((answer.verdict, answer.phase), ("yes", Fraction(phase)))
+                compared = pathsum.compare(HEAD + first, HEAD + second)
+                self.assertEqual((compared.verdict, compared.phase), ("yes", None) if phase == "0" else ("no", Fraction(phase)))
         self.assertEqual(pathsum.same(HEAD + "x q[0];", HEAD, phase=True).verdict, "no")
         self.assertEqual(pathsum.compare(HEAD + "z q[0];", HEAD).phase, None)
 
