@@ -65,7 +65,7 @@ runs_here() {
 proved_program() {
     local program
     for program in "$carried_program" "$gate_program"; do
-        if runs_here "$program" && is_of_sources "$program"; then
+        if is_of_sources "$program" && runs_here "$program"; then
             echo "$program"
             return 0
         fi

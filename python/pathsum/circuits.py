@@ -84,19 +84,20 @@ def read_file(path: "os.PathLike[str] | str", what: str = "a circuit") -> bytes:
         raise UnreadableError(f"{name} can't be read: {why}") from None
 
 
-def _is_text(source: str) -> bool:
-    return "\n" in source or ";" in source
+def is_text(source: str) -> bool:
+    """Whether a `str` is taken for a text, and not for a path."""
+    return "\n" in source or ";" in source or source.startswith(("OPENQASM", "//"))
 
 
 def circuit_of(source: Any, name: str, to_qasm: Optional[Callable[[Any], str]] = None) -> Circuit:
     """The circuit that a value stands for. A `Circuit` is itself. Else `to_qasm`, where it is given, makes a text of any
-    value but a text or a path. A `str` with a line end or a `;` is a text, as bytes are; another `str`, and each
-    `os.PathLike`, is a path. An object with a method `qasm()` or `to_qasm()` is what that writes."""
+    value but a text or a path. A `str` with a line end or a `;`, or that begins with `OPENQASM` or `//`, is a
+    text, as bytes are; another `str`, and each `os.PathLike`, is a path. An object with a method `qasm()` or `to_qasm()` is what that writes."""
     if isinstance(source, Circuit):
         return source
     if isinstance(source, (bytes, bytearray)):
         return Circuit(name, decoded(bytes(source)))
-    if isinstance(source, str) and _is_text(source):
+    if isinstance(source, str) and is_text(source):
         return Circuit(name, source.encode("utf-8", "surrogateescape"))
     if isinstance(source, (str, os.PathLike)):
         if not os.fspath(source):

@@ -24,7 +24,7 @@ from .answers import (
     Unknown,
     Yes,
 )
-from .circuits import LONGEST, MARK, Circuit, circuit_of, read_file
+from .circuits import LONGEST, MARK, Circuit, circuit_of, is_text, read_file
 from .errors import CircuitError, PathsumError, ProgramError, TimeLimitError, TooLongError
 from .faults import fault_of
 from .program import Reply, ask, find_program
@@ -351,7 +351,7 @@ def same_many(
 def _name(source: Source, what: str) -> str:
     if isinstance(source, Circuit):
         return source.name
-    if isinstance(source, os.PathLike) or isinstance(source, str) and "\n" not in source and ";" not in source:
+    if isinstance(source, os.PathLike) or isinstance(source, str) and not is_text(source):
         return os.fsdecode(os.fspath(source))
     return what
 

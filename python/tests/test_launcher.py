@@ -4,6 +4,7 @@ import os
 import shutil
 import subprocess
 import tempfile
+import time
 import unittest
 from pathlib import Path
 
@@ -133,6 +134,21 @@ class Launcher(unittest.TestCase):
             status, output, complaint = self.run_it("same")
             self.assertEqual((status, output), (70, ""))
             self.assertRegex(complaint.split("\n")[-2], "^pathsum: the unproved build gave no answer: ")
+
+    def test_a_request_to_end(self):
+        """It ends the build too."""
+        (self.kit / "rt").write_text(f"#!/bin/sh\n[ $1 = try ] || exit 1\necho $$ >{str(self.top.parent)!r}/pid\nexec sleep 60\n")
+        child = subprocess.Popen(
+            [str(self.top / "pathsum"), "same"], stdin=subprocess.DEVNULL, stderr=subprocess.DEVNULL, env=self.environment()
+        )
+        end = time.monotonic() + 20
+        while time.monotonic() < end and not (self.top.parent / "pid").exists():
+            time.sleep(0.05)
+        time.sleep(0.2)
+        child.terminate()
+        self.assertEqual(child.wait(20), 143)
+        with self.assertRaises(ProcessLookupError):
+            os.kill(int((self.top.parent / "pid").read_text()), 0)
 
     def test_nothing_to_take(self):
         status, output, complaint = self.run_it("same", with_toolchain=False)
