@@ -5,7 +5,7 @@ ghost use Rattle.ps_versions.specs.Lookup.{place_of, circuit_at, version_at};
 ghost use Rattle.ps_versions.specs.Lives.{IsLive, IsPinned, IsEarlier, HasFewPins};
 ghost use Rattle.ps_versions.specs.Spliced.{latest_of, latest_tree};
 
-use crate::{About, Kept, Ready, State, Versions, Weights};
+use crate::{About, Kept, State, Versions, Weights};
 use ps_script::{Name, Place};
 use seg_tree::{Node, Nodes, Seen};
 use std::alloc::{AllocError, Global};
@@ -445,37 +445,44 @@ fn assert_lightest(
     }
 }
 
+/// A circuit of nine items, the first leaf of which keeps a sum, and an edit of its last item. The versions have the
+/// leaves 0 and 1 and the branch 2, and the leaves 0 and 3 and the branch 4.
+fn edited(rt: &impl Abort, alloc: Global, name: Name) -> Result<Versions<Note>, AllocError> {
+    let mut versions = one_circuit(rt, alloc, name, 9)?;
+    let _ = keep_first(rt, &mut versions, &Place { name, version: 1 }, false);
+    let _ = splice(rt, &mut versions, name, 8, 9, 50)?;
+    Ok(versions)
+}
+
 #[test]
 fn takes_the_lightest(rt: HostRuntime) -> Result<(), Fail> {
     let alloc = rt.alloc();
     let name = name(&rt, b"a");
-    let mut versions = one_circuit(&rt, alloc, name, 9)?;
-    let first = Place { name, version: 1 };
-    // leaves 0 and 1, and the branch 2
-    assert_lightest(&rt, &versions, 7, Some((name, 1, 0)));
-    assert_lightest(&rt, &versions, 0, Some((name, 1, 1)));
-    assert_eq!(rt; keep_first(&rt, &mut versions, &first, false), Some(0));
-    assert_lightest(&rt, &versions, 1, Some((name, 1, 1)));
-    // the second version has leaves 0 and 3 and the branch 4
-    assert_eq!(rt; splice(&rt, &mut versions, name, 8, 9, 50)?, 2);
-    let second = Place { name, version: 2 };
-    assert_lightest(&rt, &versions, 1, Some((name, 2, 3)));
-    assert!(rt; versions.comes_before(&first, &second));
-    assert!(rt; !versions.comes_before(&second, &first));
+    let mut versions = edited(&rt, alloc, name)?;
+    for (heavy, version, number) in [(7, 1, 1), (1, 2, 3), (3, 1, 1)] {
+        assert_lightest(&rt, &versions, heavy, Some((name, version, number)));
+    }
     act(&rt, &mut versions, name, Deed::Retire(1, 30))?;
     assert_lightest(&rt, &versions, 3, Some((name, 2, 3)));
-    assert!(rt; versions.exists(&first));
-    let before = Some(Ready {
-        place: first,
-        node: match versions.root(&first) {
-            None => panic!(rt; "no root"),
-            Some(root) => root,
-        },
-    });
-    assert!(rt; versions.exists(&second));
-    assert_eq!(rt; versions.lightest_at(&second, &Heavy { number: 3 }, before), before);
-    let _ = keep_all(&rt, alloc, &mut versions, &second)?;
+    let _ = keep_all(&rt, alloc, &mut versions, &Place { name, version: 2 })?;
     assert_lightest(&rt, &versions, 7, None);
+    Ok(())
+}
+
+#[test]
+fn orders_places(rt: HostRuntime) -> Result<(), Fail> {
+    let alloc = rt.alloc();
+    let name = name(&rt, b"a");
+    let versions = edited(&rt, alloc, name)?;
+    let first = Place { name, version: 1 };
+    let second = Place { name, version: 2 };
+    assert!(rt; versions.comes_before(&first, &second));
+    assert!(rt; !versions.comes_before(&second, &first));
+    assert!(rt; versions.exists(&second));
+    match versions.lightest_at(&second, &Heavy { number: 7 }, None) {
+        None => panic!(rt; "nothing is ready"),
+        Some(ready) => assert!(rt; ready.node.number() == 3 && ready.place.version == 2),
+    }
     Ok(())
 }
 
@@ -485,20 +492,26 @@ fn finds_the_first_limit(rt: HostRuntime) -> Result<(), Fail> {
     let name = name(&rt, b"a");
     let place = Place { name, version: 1 };
     let mut versions = one_circuit(&rt, alloc, name, 17)?;
-    assert_eq!(rt; keep_first(&rt, &mut versions, &place, false), Some(0));
-    assert!(rt; versions.exists(&place));
-    assert_eq!(rt; versions.first_passed(&place), None);
-    assert_eq!(rt; keep_first(&rt, &mut versions, &place, true), Some(1));
-    assert!(rt; versions.exists(&place));
-    match versions.first_passed(&place) {
-        None => panic!(rt; "a limit was passed"),
-        Some(node) => assert_eq!(rt; node.number(), 1),
+    for (passed, want) in [(false, None), (true, Some(1))] {
+        let _ = keep_first(&rt, &mut versions, &place, passed);
+        assert!(rt; versions.exists(&place));
+        match versions.first_passed(&place) {
+            None => assert!(rt; want.is_none()),
+            Some(node) => assert_eq!(rt; Some(node.number()), want),
+        }
     }
+    Ok(())
+}
+
+#[test]
+fn tells_circuits_by_index(rt: HostRuntime) -> Result<(), Fail> {
+    let alloc = rt.alloc();
+    let name = name(&rt, b"a");
+    let versions = across(one_circuit(&rt, alloc, name, 17)?);
     assert_eq!(rt; versions.count(), 1);
     assert!(rt; versions.count() > 0);
     let (found, about) = versions.circuit(0);
     assert!(rt; found == name && about.latest == 1);
-    let _ = across(versions);
     Ok(())
 }
 
