@@ -1,5 +1,5 @@
 -- From what is found of two texts to the answer of a call.
-use Rattle.std.proofs.Common.{◌≡◌, ◌≢◌, ℕ, zero, suc, min, refl, ap, sym, ◌∙◌, ◌+◌, ◌-◌, ◌≤◌, Option, Some, None, List, [], ◌∷◌, ◌++◌, length, subst, ◌⊎◌, inl, inr, append-nil, get_or, map, arith, Bool, true, Result, Ok, Err}
+use Rattle.std.proofs.Common.{◌≡◌, ◌≢◌, ℕ, zero, suc, min, refl, ap, sym, ◌∙◌, ◌+◌, ◌-◌, ◌≤◌, Option, Some, None, List, [], ◌∷◌, ◌++◌, length, subst, ◌⊎◌, inl, inr, append-nil, get_or, map, arith, Bool, true, false, Result, Ok, Err}
 use Rattle.std.proofs.Math.Nat.{min-eq_left, min-eq_right, min-le_left}
 use Rattle.std.specs.Str.{bytes_eq}
 use Rattle.std.proofs.lemmas.Slice.Eq.{bytes_eq-Decides}
@@ -181,6 +181,28 @@ first_other f (y ∷ ws) v t u p r d x i j h = clash j (i ∙ (bytes_eq-Decides 
 
     clash : {b : Bool} → b ≡ false → b ≡ true → ⊥
     clash e g = cc
+
+-- words that are not as many, or of which the first is another, are not these two
+pub other_decides : (ws : List (List ℕ)) (t u : List ℕ) (r : Bool) → r ≡ false → (ws ≡ t ∷ u ∷ [] → ⊥) → (r ≡ true → ws ≡ t ∷ u ∷ []) × (ws ≡ t ∷ u ∷ [] → r ≡ true)
+other_decides ws t u r e n = (λ h. absurd (clash e h), λ h. absurd (n h))
+  where
+    clash : {b : Bool} → b ≡ false → b ≡ true → ⊥
+    clash e g = cc
+
+pub other_count : {X : Type 0} (f : X → List ℕ) (ws : List X) (t u : List ℕ) → (length ws ≡ 2 → ⊥) → map f ws ≡ t ∷ u ∷ [] → ⊥
+other_count f [] t u n h = no_list h
+  where
+    no_list : {a b : List ℕ} → [] ≡ a ∷ b ∷ [] → ⊥
+    no_list e = cc
+other_count f (x ∷ []) t u n h = no_list h
+  where
+    no_list : {a b c : List ℕ} → c ∷ [] ≡ a ∷ b ∷ [] → ⊥
+    no_list e = cc
+other_count f (x ∷ y ∷ []) t u n h = n refl
+other_count f (x ∷ y ∷ z ∷ ws) t u n h = no_list h
+  where
+    no_list : {a b c d e : List ℕ} {rest : List (List ℕ)} → c ∷ d ∷ e ∷ rest ≡ a ∷ b ∷ [] → ⊥
+    no_list g = cc
 
 pub no_command : (words : List (List ℕ)) → (IsCommand command.Same words → ⊥) → (IsCommand command.SamePhase words → ⊥) → (IsCommand command.Prove words → ⊥) → (IsCommand command.Replay words → ⊥) → (c : Command) → ¬ (IsCommand c words)
 no_command words f k g h command.Same = f

@@ -45,5 +45,8 @@ fn is_word(words: &[String], word: &str) -> bool
 fn are_two(words: &[String], first: &str, second: &str) -> bool
     ensures { IsTrue result ↔ (map string_bytes words.now ≡ first.now ∷ second.now ∷ []) }
 {
-    words.len() == 2 && words[0].as_str() == first && words[1].as_str() == second
+    if words.len() != 2 {
+        return false;
+    }
+    words[0].as_str() == first && words[1].as_str() == second
 }

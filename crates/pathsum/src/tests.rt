@@ -125,7 +125,12 @@ fn texts_are_compared_up_to_a_phase(rt: HostRuntime) -> Result<(), Fail> {
     ];
     for (first, second, status, printed) in rows {
         let input = pair(alloc, 1, first, second)?;
-        assert!(rt; ends_so(alloc, &told(&["same", "phase"], input.as_bytes(), status, printed))?);
+        assert!(rt;
+            ends_so(
+                alloc,
+                &told(&["same", "phase"], input.as_bytes(), status, printed)
+            )?
+        );
     }
     Ok(())
 }
