@@ -6,6 +6,8 @@ use Rattle.ps_sum.specs.declared.faults.Passed.{Passed as Limit}
 use Rattle.ps_rules.specs.declared.steps.Step.{Step}
 use Rattle.ps_rules.specs.declared.steps.Move.{Move}
 use Rattle.ps_overlap.specs.Overlapping.{point}
+use Rattle.ps_reach.specs.declared.mode.Mode.{Mode}
+use Rattle.ps_reach.specs.declared.mode.Mode.TheVariants.{Exact, Phase}
 use Rattle.ps_reach.specs.Overruns.{Overrun}
 use Rattle.ps_reach.specs.Runs.{run_of}
 use Rattle.ps_reach.specs.Fillings.{Outcome, Fills, kept, passed}
@@ -26,17 +28,17 @@ use Rattle.qasm_expand.specs.declared.fault.ReadFault.TheVariants.{Fault}
 use Rattle.qasm_expand.specs.Circuits.{CircuitOf}
 use Rattle.qasm_lex.specs.Places.{IsPlace}
 use Rattle.pathsum.specs.declared.answer.Answer.{Answer}
-use Rattle.pathsum.specs.declared.answer.Answer.TheVariants.{Yes, Proof, No, Stuck, Passed, Accepted, Rejected, Left, Refused, Words, Read, TooLong, Memory}
+use Rattle.pathsum.specs.declared.answer.Answer.TheVariants.{Yes, Proof, YesPhase, No, NoPair, Stuck, Passed, Accepted, Rejected, Left, Refused, Words, Read, TooLong, Memory}
 use Rattle.pathsum.specs.declared.input.Input.{Input}
 use Rattle.pathsum.specs.declared.commands.Command.{Command}
 use Rattle.pathsum.specs.declared.commands.Command.TheVariants as command
 use Rattle.pathsum.specs.declared.refusals.Refusal.{Refusal}
 use Rattle.pathsum.specs.declared.refusals.Refusal.TheVariants.{Text, Separator}
-use Rattle.pathsum.specs.Commands.{IsCommand}
+use Rattle.pathsum.specs.Commands.{IsCommand, words_of}
 use Rattle.pathsum.specs.Inputs.{bit_code}
 use Rattle.pathsum.specs.Splits.{IsParted}
 use Rattle.pathsum.specs.Texts.{IsReadAs, Given, both, refuses, TextsAre, first_fault, second_fault, widths, circuits}
-use Rattle.pathsum.specs.Verdicts.{Says, says_yes, says_no, says_stuck, says_passed, IsVerdict}
+use Rattle.pathsum.specs.Verdicts.{Says, says_yes, says_yes_phase, says_no, says_no_pair, says_stuck, says_passed, IsVerdict}
 use Rattle.pathsum.specs.Proofs.{IsDerivation, Proves, derived, other, Echoes, accepted, rejected, left, IsReplay, Works}
 use Rattle.pathsum.specs.Ended.{Judges, lacking, refused, judged, Answers, IsOfInput, Agree, IsOneAnswer}
 use Rattle.pathsum.proofs.Splitting.{parts_once, parts_or_lacks}
@@ -54,86 +56,61 @@ no_agree n i k e f s = record {
   text = ap (λ q. codes "no " ++ map bit_code (point q i.at) ++ codes "\n") (e ∙ sym f) ∙ ap (λ b. codes "no " ++ map bit_code (point k.qubits b) ++ codes "\n") s;
 }
 
-stuck_agree : (S T : PathSum) → S ≡ T → Agree (Stuck S) (Stuck T)
-stuck_agree S T e = equal_agree (Stuck S) (Stuck T) (ap Stuck e)
+pair_agree : (n : ℕ) (i j k l : Input) → i.qubits ≡ n → j.qubits ≡ n → k.qubits ≡ n → l.qubits ≡ n → i.at ≡ k.at → j.at ≡ l.at → Agree (NoPair i j) (NoPair k l)
+pair_agree n i j k l p q r s x y = record {
+  status = refl;
+  text = ap (λ (z : List ℕ). codes "no " ++ z ++ codes " " ++ digits j ++ codes "\n") (one i k p r x) ∙ ap (λ (z : List ℕ). codes "no " ++ digits k ++ codes " " ++ z ++ codes "\n") (one j l q s y);
+}
+  where
+    digits : Input → List ℕ
+    digits i = map bit_code (point i.qubits i.at)
+
+    one : (i k : Input) → i.qubits ≡ n → k.qubits ≡ n → i.at ≡ k.at → digits i ≡ digits k
+    one i k e f s = ap (λ q. map bit_code (point q i.at)) (e ∙ sym f) ∙ ap (λ b. map bit_code (point k.qubits b)) s
 
 passed_agree : (p q : Limit) → p ≡ q → Agree (Passed p) (Passed q)
 passed_agree p q e = equal_agree (Passed p) (Passed q) (ap Passed e)
 
 -- ---- one finding is told in one way
-yes_not_no : {b : List ℕ} → yes ≡ no b → ⊥
-yes_not_no e = cc
-
-yes_not_stuck : {S : PathSum} → yes ≡ stuck S → ⊥
-yes_not_stuck e = cc
-
-yes_not_limit : {o : Overrun} → yes ≡ limit o → ⊥
-yes_not_limit e = cc
-
-no_not_stuck : {b : List ℕ} {S : PathSum} → no b ≡ stuck S → ⊥
-no_not_stuck e = cc
-
-no_not_limit : {b : List ℕ} {o : Overrun} → no b ≡ limit o → ⊥
-no_not_limit e = cc
-
-stuck_not_limit : {S : PathSum} {o : Overrun} → stuck S ≡ limit o → ⊥
-stuck_not_limit e = cc
-
-no_bits : (b c : List ℕ) → no b ≡ no c → b ≡ c
-no_bits b c e = cc
-
-stuck_sums : (S T : PathSum) → stuck S ≡ stuck T → S ≡ T
-stuck_sums S T e = cc
-
-limit_overruns : (o p : Overrun) → limit o ≡ limit p → o ≡ p
-limit_overruns o p e = cc
+says_same : {n : ℕ} {f : Finding} {a b : Answer} → Says n f a → Says n f b → Agree a b
+says_same says_yes says_yes = same_agree Yes
+says_same (says_yes_phase {p = p}) says_yes_phase = same_agree (YesPhase p)
+says_same {n} (says_no {input = i} p q) (says_no {input = k} r s) = no_agree n i k p r (sym q ∙ s)
+says_same {n} (says_no_pair {first = i} {second = j} p q x y) (says_no_pair {first = k} {second = l} r s z w) = pair_agree n i j k l p q r s (sym x ∙ z) (sym y ∙ w)
+says_same (says_stuck {S = S}) says_stuck = same_agree (Stuck S)
+says_same (says_passed {passed = x} p) (says_passed {passed = y} q) = passed_agree x y (p ∙ sym q)
 
 says_one : (n : ℕ) (f g : Finding) (a b : Answer) → f ≡ g → Says n f a → Says n g b → Agree a b
-says_one n f g a b e says_yes says_yes = same_agree Yes
-says_one n f g a b e says_yes (says_no p q) = absurd (yes_not_no e)
-says_one n f g a b e says_yes says_stuck = absurd (yes_not_stuck e)
-says_one n f g a b e says_yes (says_passed p) = absurd (yes_not_limit e)
-says_one n f g a b e (says_no p q) says_yes = absurd (yes_not_no (sym e))
-says_one n f g a b e (says_no {input = i} {bits = c} p q) (says_no {input = k} {bits = d} r s) = no_agree n i k p r (sym q ∙ no_bits c d e ∙ s)
-says_one n f g a b e (says_no p q) says_stuck = absurd (no_not_stuck e)
-says_one n f g a b e (says_no p q) (says_passed r) = absurd (no_not_limit e)
-says_one n f g a b e says_stuck says_yes = absurd (yes_not_stuck (sym e))
-says_one n f g a b e says_stuck (says_no p q) = absurd (no_not_stuck (sym e))
-says_one n f g a b e (says_stuck {S = S}) (says_stuck {S = T}) = stuck_agree S T (stuck_sums S T e)
-says_one n f g a b e says_stuck (says_passed p) = absurd (stuck_not_limit e)
-says_one n f g a b e (says_passed p) says_yes = absurd (yes_not_limit (sym e))
-says_one n f g a b e (says_passed p) (says_no q r) = absurd (no_not_limit (sym e))
-says_one n f g a b e (says_passed p) says_stuck = absurd (stuck_not_limit (sym e))
-says_one n f g a b e (says_passed {e = o} {passed = x} p) (says_passed {e = u} {passed = y} q) = passed_agree x y (p ∙ ap (λ (z : Overrun). z.passed) (limit_overruns o u e) ∙ sym q)
+says_one n f g a b e p q = says_same (subst (λ x. Says n x a) e p) q
 
 says_yes_only : (n : ℕ) (f : Finding) (a : Answer) → f ≡ yes → Says n f a → a ≡ Yes
-says_yes_only n f a e says_yes = refl
-says_yes_only n f a e (says_no p q) = absurd (yes_not_no (sym e))
-says_yes_only n f a e says_stuck = absurd (yes_not_stuck (sym e))
-says_yes_only n f a e (says_passed p) = absurd (yes_not_limit (sym e))
+says_yes_only n f a e s = told (subst (λ x. Says n x a) e s)
+  where
+    told : {a : Answer} → Says n yes a → a ≡ Yes
+    told says_yes = refl
 
 -- ---- two comparisons of the same lists take the same steps and find the same
-compares_one : (n : ℕ) (A B : List Prim) (o1 o2 u1 u2 : Outcome) (ss ts : List Step) (f g : Finding) → Fills n A o1 → Fills n B o2 → Compares o1 o2 ss f → Fills n A u1 → Fills n B u2 → Compares u1 u2 ts g → (ss ≡ ts) × (f ≡ g)
-compares_one n A B o1 o2 u1 u2 ss ts f g a b c d e h =
-    let k = compares_only c (subst (λ o. Compares o1 o ts g) (fills_only e b) (subst (λ o. Compares o u2 ts g) (fills_only d a) h)) in (k.steps, k.found)
+compares_one : (mode : Mode) (n : ℕ) (A B : List Prim) (o1 o2 u1 u2 : Outcome) (ss ts : List Step) (f g : Finding) → Fills n A o1 → Fills n B o2 → Compares mode o1 o2 ss f → Fills n A u1 → Fills n B u2 → Compares mode u1 u2 ts g → (ss ≡ ts) × (f ≡ g)
+compares_one mode n A B o1 o2 u1 u2 ss ts f g a b c d e h =
+    let k = compares_only c (subst (λ o. Compares mode o1 o ts g) (fills_only e b) (subst (λ o. Compares mode o u2 ts g) (fills_only d a) h)) in (k.steps, k.found)
 
-finding_one : (n : ℕ) (A B : List Prim) (ss ts : List Step) (f g : Finding) → Decides n A B ss f → Decides n A B ts g → f ≡ g
-finding_one n A B ss ts f g d e = (compares_one n A B d.first d.second e.first e.second ss ts f g d.first_fills d.second_fills d.compares e.first_fills e.second_fills e.compares).1
+finding_one : (mode : Mode) (n : ℕ) (A B : List Prim) (ss ts : List Step) (f g : Finding) → Decides n A B mode ss f → Decides n A B mode ts g → f ≡ g
+finding_one mode n A B ss ts f g d e = (compares_one mode n A B d.first d.second e.first e.second ss ts f g d.first_fills d.second_fills d.compares e.first_fills e.second_fills e.compares).1
 
-early_one : (n : ℕ) (A B : List Prim) (ss : List Step) (e : Overrun) (g : Finding) → PassesFirst n A e → Decides n A B ss g → limit e ≡ g
-early_one n A B ss e g p d = (compares_only first_limit (subst (λ o. Compares o d.second ss g) (fills_only d.first_fills p.fills) d.compares)).found
+early_one : (mode : Mode) (n : ℕ) (A B : List Prim) (ss : List Step) (e : Overrun) (g : Finding) → PassesFirst n A e → Decides n A B mode ss g → limit e ≡ g
+early_one mode n A B ss e g p d = (compares_only first_limit (subst (λ o. Compares mode o d.second ss g) (fills_only d.first_fills p.fills) d.compares)).found
 
 same_limits : (d e : Overrun) (ms ns : List Move) → passed d ms ≡ passed e ns → limit d ≡ limit e
 same_limits d e ms ns h = cc
 
-settled_one : (n : ℕ) (A B : List Prim) {ss ts : List Step} {f g : Finding} → Settles n A B ss f → Settles n A B ts g → f ≡ g
-settled_one n A B (early {e = d} p) (early {e = e} q) = same_limits d e p.moves q.moves (fills_only p.fills q.fills)
-settled_one n A B (early {e = e} p) (compared {steps = ts} {finding = g} d) = early_one n A B ts e g p d
-settled_one n A B (compared {steps = ss} {finding = f} d) (early {e = e} p) = sym (early_one n A B ss e f p d)
-settled_one n A B (compared {steps = ss} {finding = f} d) (compared {steps = ts} {finding = g} e) = finding_one n A B ss ts f g d e
+settled_one : (mode : Mode) (n : ℕ) (A B : List Prim) {ss ts : List Step} {f g : Finding} → Settles n A B mode ss f → Settles n A B mode ts g → f ≡ g
+settled_one mode n A B (early {e = d} p) (early {e = e} q) = same_limits d e p.moves q.moves (fills_only p.fills q.fills)
+settled_one mode n A B (early {e = e} p) (compared {steps = ts} {finding = g} d) = early_one mode n A B ts e g p d
+settled_one mode n A B (compared {steps = ss} {finding = f} d) (early {e = e} p) = sym (early_one mode n A B ss e f p d)
+settled_one mode n A B (compared {steps = ss} {finding = f} d) (compared {steps = ts} {finding = g} e) = finding_one mode n A B ss ts f g d e
 
-verdict_one : (n : ℕ) (A B : List Prim) (a b : Answer) → IsVerdict n A B a → IsVerdict n A B b → Agree a b
-verdict_one n A B a b d e = says_one n d.finding e.finding a b (settled_one n A B d.decided e.decided) d.told e.told
+verdict_one : (mode : Mode) (n : ℕ) (A B : List Prim) (a b : Answer) → IsVerdict n A B mode a → IsVerdict n A B mode b → Agree a b
+verdict_one mode n A B a b d e = says_one n d.finding e.finding a b (settled_one mode n A B d.decided e.decided) d.told e.told
 
 -- ---- derivations
 kept_moves : (S T : PathSum) (ms ns : List Move) → kept S ms ≡ kept T ns → ms ≡ ns
@@ -144,7 +121,7 @@ proof_agree d e h = record { status = refl; text = ap lines_text h }
 
 derivation_one : (n : ℕ) (A B : List Prim) (d e : Derivation) → IsDerivation n A B d → IsDerivation n A B e → Agree (Proof d) (Proof e)
 derivation_one n A B d e x y =
-    let s = (compares_one n A B (kept x.first x.first_moves) (kept x.second x.second_moves) (kept y.first y.first_moves) (kept y.second y.second_moves) x.steps y.steps yes yes x.first_fills x.second_fills x.compares y.first_fills y.second_fills y.compares).0 in
+    let s = (compares_one Exact n A B (kept x.first x.first_moves) (kept x.second x.second_moves) (kept y.first y.first_moves) (kept y.second y.second_moves) x.steps y.steps yes yes x.first_fills x.second_fills x.compares y.first_fills y.second_fills y.compares).0 in
     let a = kept_moves x.first y.first x.first_moves y.first_moves (fills_only x.first_fills y.first_fills) in
     let b = kept_moves x.second y.second x.second_moves y.second_moves (fills_only x.second_fills y.second_fills) in
     proof_agree d e (x.lines ∙ ap (λ (ms : List Move). lines_by ms x.second_moves x.steps) a ∙ ap (λ (ms : List Move). lines_by y.first_moves ms x.steps) b ∙ ap (λ (ss : List Step). lines_by y.first_moves y.second_moves ss) s ∙ sym y.lines)
@@ -152,19 +129,19 @@ derivation_one n A B d e x y =
 kept_not_passed : (S : PathSum) (ms ns : List Move) (e : Overrun) → kept S ms ≡ passed e ns → ⊥
 kept_not_passed S ms ns e h = cc
 
-derived_yes : (n : ℕ) (A B : List Prim) (d : Derivation) {ss : List Step} {f : Finding} → IsDerivation n A B d → Settles n A B ss f → yes ≡ f
+derived_yes : (n : ℕ) (A B : List Prim) (d : Derivation) {ss : List Step} {f : Finding} → IsDerivation n A B d → Settles n A B Exact ss f → yes ≡ f
 derived_yes n A B d x (early {e = e} p) = absurd (kept_not_passed x.first x.first_moves p.moves e (fills_only x.first_fills p.fills))
 derived_yes n A B d x (compared {steps = ss} {finding = f} k) =
-    (compares_one n A B (kept x.first x.first_moves) (kept x.second x.second_moves) k.first k.second x.steps ss yes f x.first_fills x.second_fills x.compares k.first_fills k.second_fills k.compares).1
+    (compares_one Exact n A B (kept x.first x.first_moves) (kept x.second x.second_moves) k.first k.second x.steps ss yes f x.first_fills x.second_fills x.compares k.first_fills k.second_fills k.compares).1
 
-derivation_or_other : (n : ℕ) (A B : List Prim) (d : Derivation) (a : Answer) → IsDerivation n A B d → IsVerdict n A B a → a ≢ Yes → ⊥
+derivation_or_other : (n : ℕ) (A B : List Prim) (d : Derivation) (a : Answer) → IsDerivation n A B d → IsVerdict n A B Exact a → a ≢ Yes → ⊥
 derivation_or_other n A B d a x v h = h (says_yes_only n v.finding a (sym (derived_yes n A B d x v.decided)) v.told)
 
 proves_one : (n : ℕ) (A B : List Prim) (a b : Answer) → Proves n A B a → Proves n A B b → Agree a b
 proves_one n A B a b (derived {d = d} x) (derived {d = e} y) = derivation_one n A B d e x y
 proves_one n A B a b (derived {d = d} x) (other v h) = absurd (derivation_or_other n A B d b x v h)
 proves_one n A B a b (other v h) (derived {d = d} x) = absurd (derivation_or_other n A B d a x v h)
-proves_one n A B a b (other v h) (other w k) = verdict_one n A B a b v w
+proves_one n A B a b (other v h) (other w k) = verdict_one Exact n A B a b v w
 
 -- ---- replays
 accepted_not_rejected : {l : ℕ} {w : Why} → replayed.Accepted ≡ replayed.Rejected l w → ⊥
@@ -200,7 +177,8 @@ replay_one : (n : ℕ) (A B : List Prim) (d : List ℕ) (a b : Answer) → IsRep
 replay_one n A B d a b x y = echoes_one x.replayed y.replayed a b (replays_once x.replays y.replays) x.told y.told
 
 works_one : (c : Command) (n : ℕ) (A B : List Prim) (d : List ℕ) (a b : Answer) → Works c n A B d a → Works c n A B d b → Agree a b
-works_one command.Same n A B d a b x y = verdict_one n A B a b x y
+works_one command.Same n A B d a b x y = verdict_one Exact n A B a b x y
+works_one command.SamePhase n A B d a b x y = verdict_one Phase n A B a b x y
 works_one command.Prove n A B d a b x y = proves_one n A B a b x y
 works_one command.Replay n A B d a b x y = replay_one n A B d a b x y
 
@@ -311,25 +289,27 @@ judges_one c bytes x y (judged a b d s n A B q t w) (judged a' b' d' s' n' A' B'
     works_one c n' A' B' d' x y (works_moved c n n' A B A' B' d d' x (both_n e) (both_first e) (both_second e) o.document w) w'
 
 -- ---- words
-same_not_prove : codes "same" ∷ [] ≡ codes "prove" ∷ [] → ⊥
-same_not_prove e = cc
-
-same_not_replay : codes "same" ∷ [] ≡ codes "replay" ∷ [] → ⊥
-same_not_replay e = cc
-
-prove_not_replay : codes "prove" ∷ [] ≡ codes "replay" ∷ [] → ⊥
-prove_not_replay e = cc
-
+-- the words of different commands differ in their first word, or in how many there are
 command_one : (words : List (List ℕ)) (c d : Command) → IsCommand c words → IsCommand d words → c ≡ d
-command_one words command.Same command.Same e f = refl
-command_one words command.Same command.Prove e f = absurd (same_not_prove (sym e ∙ f))
-command_one words command.Same command.Replay e f = absurd (same_not_replay (sym e ∙ f))
-command_one words command.Prove command.Same e f = absurd (same_not_prove (sym f ∙ e))
-command_one words command.Prove command.Prove e f = refl
-command_one words command.Prove command.Replay e f = absurd (prove_not_replay (sym e ∙ f))
-command_one words command.Replay command.Same e f = absurd (same_not_replay (sym f ∙ e))
-command_one words command.Replay command.Prove e f = absurd (prove_not_replay (sym f ∙ e))
-command_one words command.Replay command.Replay e f = refl
+command_one words c d e f = told c d (sym e ∙ f)
+  where
+    told : (c d : Command) → words_of c ≡ words_of d → c ≡ d
+    told command.Same command.Same e = refl
+    told command.Same command.SamePhase e = cc
+    told command.Same command.Prove e = cc
+    told command.Same command.Replay e = cc
+    told command.SamePhase command.Same e = cc
+    told command.SamePhase command.SamePhase e = refl
+    told command.SamePhase command.Prove e = cc
+    told command.SamePhase command.Replay e = cc
+    told command.Prove command.Same e = cc
+    told command.Prove command.SamePhase e = cc
+    told command.Prove command.Prove e = refl
+    told command.Prove command.Replay e = cc
+    told command.Replay command.Same e = cc
+    told command.Replay command.SamePhase e = cc
+    told command.Replay command.Prove e = cc
+    told command.Replay command.Replay e = refl
 
 -- what an answer is: to wrong words, to a long input, or to what was read
 data Kind (words : List (List ℕ)) (bytes : List ℕ) : Answer → Type 0 where
@@ -343,6 +323,8 @@ read_kind words bytes c a w d = read c w d.0 d.1
 kind_of : (words : List (List ℕ)) (bytes : List ℕ) (s s' : ℕ) (a : Answer) → Answers words (Some bytes) s s' a → IsOfInput a → Kind words bytes a
 kind_of words bytes s s' Yes d i = read_kind words bytes d.command Yes d.is d.deserves
 kind_of words bytes s s' (Proof k) d i = read_kind words bytes d.command (Proof k) d.is d.deserves
+kind_of words bytes s s' (YesPhase p) d i = read_kind words bytes d.command (YesPhase p) d.is d.deserves
+kind_of words bytes s s' (NoPair j k) d i = read_kind words bytes d.command (NoPair j k) d.is d.deserves
 kind_of words bytes s s' (No k) d i = read_kind words bytes d.command (No k) d.is d.deserves
 kind_of words bytes s s' (Stuck k) d i = read_kind words bytes d.command (Stuck k) d.is d.deserves
 kind_of words bytes s s' (Passed k) d i = read_kind words bytes d.command (Passed k) d.is d.deserves

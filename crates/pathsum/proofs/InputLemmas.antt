@@ -1,5 +1,6 @@
 -- The digits of a basis input.
-use Rattle.std.proofs.Common.{◌≡◌, ℕ, zero, suc, ◌+◌, refl, ap, ap₂, sym, ◌∙◌, arith, Bool, List, [], ◌∷◌, ◌++◌, map}
+use Rattle.std.proofs.Common.{◌≡◌, ℕ, zero, suc, ◌+◌, refl, ap, ap₂, sym, ◌∙◌, arith, Bool, List, [], ◌∷◌, ◌++◌, map, append_assoc}
+use Rattle.std.proofs.lemmas.List.{append-nil}
 use Rattle.ps_mono.specs.Sets.{stands}
 use Rattle.ps_ring.specs.Truths.{Truths}
 use Rattle.ps_ring.specs.Readings.{taken}
@@ -20,18 +21,19 @@ pub map_next : (f : Bool → ℕ) (xs : List Bool) (b : Bool) → map f (xs ++ (
 map_next f [] b = refl
 map_next f (x ∷ xs) b = ap (λ (r : List ℕ). f x ∷ r) (map_next f xs b)
 
--- the digits so far
-abbrev pub digits_to : List ℕ → ℕ → List ℕ
-digits_to m n = 110 ∷ 111 ∷ 32 ∷ map bit_code (truths_from m 0 n)
+-- the digits so far, behind others
+abbrev pub digits_to : List ℕ → List ℕ → ℕ → List ℕ
+digits_to front m n = front ++ map bit_code (truths_from m 0 n)
 
-pub digits_start : (m : List ℕ) → 110 ∷ 111 ∷ 32 ∷ [] ≡ digits_to m 0
+pub digits_start : (front m : List ℕ) → front ≡ digits_to front m 0
 unfolding taken
-digits_start m = refl
+digits_start front m = sym (append-nil front)
 
-pub digits_next : (m line line' : List ℕ) (n d : ℕ) → line ≡ digits_to m n → d ≡ bit_code (stands n m) → line' ≡ line ++ (d ∷ []) → line' ≡ digits_to m (n + 1)
-digits_next m line line' n d e f g =
+pub digits_next : (front m line line' : List ℕ) (n d : ℕ) → line ≡ digits_to front m n → d ≡ bit_code (stands n m) → line' ≡ line ++ (d ∷ []) → line' ≡ digits_to front m (n + 1)
+digits_next front m line line' n d e f g =
     let s : n + 1 ≡ suc n = omega arith in
     let z : zero + n ≡ n = omega arith in
     g ∙ ap₂ (λ (a : List ℕ) (b : ℕ). a ++ (b ∷ [])) e (f ∙ ap (λ u. bit_code (stands u m)) (sym z))
-    ∙ ap (λ (r : List ℕ). 110 ∷ 111 ∷ 32 ∷ r) (sym (map_next bit_code (truths_from m 0 n) (stands (zero + n) m)) ∙ ap (map bit_code) (sym (truths_next m 0 n)))
-    ∙ ap (digits_to m) (sym s)
+    ∙ append_assoc front (map bit_code (truths_from m 0 n)) (bit_code (stands (zero + n) m) ∷ [])
+    ∙ ap (λ (r : List ℕ). front ++ r) (sym (map_next bit_code (truths_from m 0 n) (stands (zero + n) m)) ∙ ap (map bit_code) (sym (truths_next m 0 n)))
+    ∙ ap (digits_to front m) (sym s)

@@ -1,5 +1,5 @@
 -- From what is found of two texts to the answer of a call.
-use Rattle.std.proofs.Common.{◌≡◌, ◌≢◌, ℕ, zero, suc, min, refl, ap, sym, ◌∙◌, ◌+◌, ◌-◌, ◌≤◌, Option, Some, None, List, [], ◌∷◌, ◌++◌, length, subst, ◌⊎◌, inl, inr, append-nil, get_or, map, arith, Bool, true, Result, Ok, Err}
+use Rattle.std.proofs.Common.{◌≡◌, ◌≢◌, ℕ, zero, suc, min, refl, ap, sym, ◌∙◌, ◌+◌, ◌-◌, ◌≤◌, Option, Some, None, List, [], ◌∷◌, ◌++◌, length, subst, ◌⊎◌, inl, inr, append-nil, get_or, map, arith, Bool, true, false, Result, Ok, Err}
 use Rattle.std.proofs.Math.Nat.{min-eq_left, min-eq_right, min-le_left}
 use Rattle.std.specs.Str.{bytes_eq}
 use Rattle.std.proofs.lemmas.Slice.Eq.{bytes_eq-Decides}
@@ -19,7 +19,7 @@ use Rattle.pathsum.specs.declared.pair.Pair.{Pair}
 use Rattle.pathsum.specs.declared.pair.TwoTexts.{TwoTexts}
 use Rattle.pathsum.specs.declared.pair.TwoTexts.TheVariants.{Both, Refuses}
 use Rattle.pathsum.specs.declared.answer.Answer.{Answer}
-use Rattle.pathsum.specs.declared.answer.Answer.TheVariants.{Yes, Proof, No, Stuck, Passed, Accepted, Rejected, Left, Refused, Words, Read, TooLong, Memory}
+use Rattle.pathsum.specs.declared.answer.Answer.TheVariants.{Yes, Proof, YesPhase, No, NoPair, Stuck, Passed, Accepted, Rejected, Left, Refused, Words, Read, TooLong, Memory}
 use Rattle.pathsum.specs.declared.commands.Command.{Command}
 use Rattle.pathsum.specs.declared.commands.Command.TheVariants as command
 use Rattle.pathsum.specs.declared.refusals.Refusal.{Refusal}
@@ -29,7 +29,7 @@ use Rattle.pathsum.specs.Commands.{IsCommand}
 use Rattle.pathsum.specs.Splits.{IsParted, Lacks}
 use Rattle.pathsum.specs.Texts.{IsReadAs, Given, both, refuses, TextsAre, first_fault, second_fault, widths, circuits}
 use Rattle.pathsum.specs.Givens.{given_in, IsNear, OfCircuits, differ, agree}
-use Rattle.pathsum.specs.Verdicts.{Says, says_yes, says_no, says_stuck, says_passed}
+use Rattle.pathsum.specs.Verdicts.{Says, says_yes, says_yes_phase, says_no, says_no_pair, says_stuck, says_passed}
 use Rattle.pathsum.specs.Proofs.{Proves, derived, other, Echoes, accepted, rejected, left, Works}
 use Rattle.pathsum.specs.Ended.{Judges, lacking, refused, judged, Deserves, Answers, Ends, Writes}
 use Rattle.pathsum.specs.Judgements.{Judged, IsRefusal}
@@ -45,7 +45,9 @@ IsJudgement answer = Unit {0}
 
 says_judgement : {n : ℕ} {f : Finding} {a : Answer} → Says n f a → IsJudgement a
 says_judgement says_yes = tt
+says_judgement says_yes_phase = tt
 says_judgement (says_no p q) = tt
+says_judgement (says_no_pair p q x y) = tt
 says_judgement says_stuck = tt
 says_judgement (says_passed p) = tt
 
@@ -60,6 +62,7 @@ echoes_judgement left = tt
 
 works_judgement : (c : Command) (n : ℕ) (A B : List Prim) (d : List ℕ) (a : Answer) → Works c n A B d a → IsJudgement a
 works_judgement command.Same n A B d a w = says_judgement w.told
+works_judgement command.SamePhase n A B d a w = says_judgement w.told
 works_judgement command.Prove n A B d a w = proves_judgement w
 works_judgement command.Replay n A B d a w = echoes_judgement w.told
 
@@ -71,7 +74,9 @@ judges_judgement c bytes a (judged x y d s n A B p t w) = works_judgement c n A 
 deserves_of : (c : Command) (told : Option (List ℕ)) (old new : ℕ) (a : Answer) → IsJudgement a → IfSome told (λ bytes. (length bytes ≤ 16777216) × Judges c bytes a) → Deserves c told old new a
 deserves_of c told old new Yes i d = d
 deserves_of c told old new (Proof k) i d = d
+deserves_of c told old new (YesPhase p) i d = d
 deserves_of c told old new (No k) i d = d
+deserves_of c told old new (NoPair j k) i d = d
 deserves_of c told old new (Stuck k) i d = d
 deserves_of c told old new (Passed k) i d = d
 deserves_of c told old new Accepted i d = d
@@ -105,6 +110,8 @@ printed claims old new f f' status answer c m (inr w) = record { answer = Memory
 answers_of : (c : Command) (words : List (List ℕ)) (told : Option (List ℕ)) (s s' : ℕ) (answer : Answer) → IsCommand c words → Deserves c told s s' answer → Answers words told s s' answer
 answers_of c words told s s' Yes w d = record { command = c; is = w; deserves = d }
 answers_of c words told s s' (Proof k) w d = record { command = c; is = w; deserves = d }
+answers_of c words told s s' (YesPhase p) w d = record { command = c; is = w; deserves = d }
+answers_of c words told s s' (NoPair j k) w d = record { command = c; is = w; deserves = d }
 answers_of c words told s s' (No k) w d = record { command = c; is = w; deserves = d }
 answers_of c words told s s' (Stuck k) w d = record { command = c; is = w; deserves = d }
 answers_of c words told s s' (Passed k) w d = record { command = c; is = w; deserves = d }
@@ -143,10 +150,65 @@ one_decides f ws w t text r l e s d =
     head : {x y : List ℕ} → x ∷ [] ≡ y ∷ [] → x ≡ y
     head e = cc
 
-pub no_command : (words : List (List ℕ)) → (IsCommand command.Same words → ⊥) → (IsCommand command.Prove words → ⊥) → (IsCommand command.Replay words → ⊥) → (c : Command) → ¬ (IsCommand c words)
-no_command words f g h command.Same = f
-no_command words f g h command.Prove = g
-no_command words f g h command.Replay = h
+two_words : {X : Type 0} (f : X → List ℕ) (ws : List X) (v w : X) → length ws ≡ 2 → v ≡ get_or ws 0 v → w ≡ get_or ws 1 w → map f ws ≡ f v ∷ f w ∷ []
+two_words f [] v w l d e = absurd (omega arith)
+two_words f (x ∷ []) v w l d e = absurd (omega arith)
+two_words f (x ∷ y ∷ []) v w l d e = ap (λ u. f u ∷ f y ∷ []) (sym d) ∙ ap (λ u. f v ∷ f u ∷ []) (sym e)
+two_words f (x ∷ y ∷ z ∷ ws) v w l d e = absurd (omega arith)
+
+-- a test of both words
+pub two_decide : {X : Type 0} (f : X → List ℕ) (ws : List X) (v w : X) (t u : List ℕ) (p q : List ℕ) (r s : Bool) → length ws ≡ 2 → v ≡ get_or ws 0 v → w ≡ get_or ws 1 w → p ≡ f v → q ≡ f w → r ≡ bytes_eq p t → r ≡ true → s ≡ bytes_eq q u
+    → (s ≡ true → map f ws ≡ t ∷ u ∷ []) × (map f ws ≡ t ∷ u ∷ [] → s ≡ true)
+two_decide f ws v w t u p q r s l d e x y i j k =
+    let o = two_words f ws v w l d e in (
+      λ h. o ∙ ap (λ (z : List ℕ). z ∷ f w ∷ []) (sym x ∙ (bytes_eq-Decides p t).0 (sym i ∙ j)) ∙ ap (λ (z : List ℕ). t ∷ z ∷ []) (sym y ∙ (bytes_eq-Decides q u).0 (sym k ∙ h)),
+      λ h. k ∙ (bytes_eq-Decides q u).1 (y ∙ second (sym o ∙ h)),
+    )
+  where
+    second : {a b c d : List ℕ} → a ∷ b ∷ [] ≡ c ∷ d ∷ [] → b ≡ d
+    second e = cc
+
+-- where the first word is another
+pub first_other : {X : Type 0} (f : X → List ℕ) (ws : List X) (v : X) (t u : List ℕ) (p : List ℕ) (r : Bool) → v ≡ get_or ws 0 v → p ≡ f v → r ≡ bytes_eq p t → r ≡ false → map f ws ≡ t ∷ u ∷ [] → ⊥
+first_other f [] v t u p r d x i j h = no_list h
+  where
+    no_list : {a b : List ℕ} → [] ≡ a ∷ b ∷ [] → ⊥
+    no_list e = cc
+first_other f (y ∷ ws) v t u p r d x i j h = clash j (i ∙ (bytes_eq-Decides p t).1 (x ∙ ap f d ∙ head h))
+  where
+    head : {a b c : List ℕ} {rest : List (List ℕ)} → a ∷ rest ≡ b ∷ c ∷ [] → a ≡ b
+    head e = cc
+
+    clash : {b : Bool} → b ≡ false → b ≡ true → ⊥
+    clash e g = cc
+
+-- words that are not as many, or of which the first is another, are not these two
+pub other_decides : (ws : List (List ℕ)) (t u : List ℕ) (r : Bool) → r ≡ false → (ws ≡ t ∷ u ∷ [] → ⊥) → (r ≡ true → ws ≡ t ∷ u ∷ []) × (ws ≡ t ∷ u ∷ [] → r ≡ true)
+other_decides ws t u r e n = (λ h. absurd (clash e h), λ h. absurd (n h))
+  where
+    clash : {b : Bool} → b ≡ false → b ≡ true → ⊥
+    clash e g = cc
+
+pub other_count : {X : Type 0} (f : X → List ℕ) (ws : List X) (t u : List ℕ) → (length ws ≡ 2 → ⊥) → map f ws ≡ t ∷ u ∷ [] → ⊥
+other_count f [] t u n h = no_list h
+  where
+    no_list : {a b : List ℕ} → [] ≡ a ∷ b ∷ [] → ⊥
+    no_list e = cc
+other_count f (x ∷ []) t u n h = no_list h
+  where
+    no_list : {a b c : List ℕ} → c ∷ [] ≡ a ∷ b ∷ [] → ⊥
+    no_list e = cc
+other_count f (x ∷ y ∷ []) t u n h = n refl
+other_count f (x ∷ y ∷ z ∷ ws) t u n h = no_list h
+  where
+    no_list : {a b c d e : List ℕ} {rest : List (List ℕ)} → c ∷ d ∷ e ∷ rest ≡ a ∷ b ∷ [] → ⊥
+    no_list g = cc
+
+pub no_command : (words : List (List ℕ)) → (IsCommand command.Same words → ⊥) → (IsCommand command.SamePhase words → ⊥) → (IsCommand command.Prove words → ⊥) → (IsCommand command.Replay words → ⊥) → (c : Command) → ¬ (IsCommand c words)
+no_command words f k g h command.Same = f
+no_command words f k g h command.SamePhase = k
+no_command words f k g h command.Prove = g
+no_command words f k g h command.Replay = h
 
 -- ---- refusals
 near_or_far : (x y : ℕ) → (x ≤ y) ⊎ (y ≤ x)

@@ -4,3 +4,4 @@ pub mod Judging
 pub mod Placing
 pub mod Splitting
 pub mod Verdicts
+pub mod PhaseLines

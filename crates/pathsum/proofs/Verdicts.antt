@@ -16,6 +16,8 @@ use Rattle.ps_reach.specs.declared.evidence.Evidence.{Evidence}
 use Rattle.ps_reach.specs.declared.judged.Judged.{Judged}
 use Rattle.ps_reach.specs.declared.verdict.Verdict.{Verdict}
 use Rattle.ps_reach.specs.declared.verdict.Verdict.TheVariants as verdict
+use Rattle.ps_reach.specs.declared.mode.Mode.{Mode}
+use Rattle.ps_reach.specs.declared.mode.Mode.TheVariants.{Exact}
 use Rattle.ps_reach.specs.Runs.{prims_of, run_of}
 use Rattle.ps_reach.specs.Fillings.{Outcome, Fills, kept}
 use Rattle.ps_reach.specs.Findings.{Finding, yes, limit, Compares, first_limit, second_limit, sums, IsJustified}
@@ -37,8 +39,8 @@ use Rattle.qasm_expand.specs.Maps.{prims_in}
 use Rattle.qasm_expand.specs.States.{ItemsWithin}
 use Rattle.pathsum.specs.declared.input.Input.{Input}
 use Rattle.pathsum.specs.declared.answer.Answer.{Answer}
-use Rattle.pathsum.specs.declared.answer.Answer.TheVariants.{Yes, Proof, No, Stuck, Passed, Accepted, Rejected, Left}
-use Rattle.pathsum.specs.Verdicts.{Says, says_yes, says_no, says_stuck, says_passed, IsVerdict}
+use Rattle.pathsum.specs.declared.answer.Answer.TheVariants.{Yes, Proof, YesPhase, No, NoPair, Stuck, Passed, Accepted, Rejected, Left}
+use Rattle.pathsum.specs.Verdicts.{Says, says_yes, says_yes_phase, says_no, says_no_pair, says_stuck, says_passed, IsVerdict}
 use Rattle.pathsum.specs.Proofs.{Proves, derived, other, Echoes, accepted, rejected, left, IsReplay}
 
 -- ---- an answer tells its verdict
@@ -47,6 +49,12 @@ told_yes n v e = subst (λ x. Says n (finding_of x) Yes) (sym e) says_yes
 
 pub told_no : (n : ℕ) (v : Verdict) (bits : List ℕ) (i : Input) → v ≡ verdict.No bits → i.qubits ≡ n → bits ≡ i.at → Says n (finding_of v) (No i)
 told_no n v bits i e q b = subst (λ x. Says n (finding_of x) (No i)) (sym e) (says_no q b)
+
+pub told_yes_phase : (n : ℕ) (v : Verdict) (p : ℕ) → v ≡ verdict.YesPhase p → Says n (finding_of v) (YesPhase p)
+told_yes_phase n v p e = subst (λ x. Says n (finding_of x) (YesPhase p)) (sym e) says_yes_phase
+
+pub told_no_pair : (n : ℕ) (v : Verdict) (a b : List ℕ) (i k : Input) → v ≡ verdict.NoPair a b → i.qubits ≡ n → k.qubits ≡ n → a ≡ i.at → b ≡ k.at → Says n (finding_of v) (NoPair i k)
+told_no_pair n v a b i k e p q x y = subst (λ z. Says n (finding_of z) (NoPair i k)) (sym e) (says_no_pair p q x y)
 
 pub told_stuck : (n : ℕ) (v : Verdict) (S : PathSum) → v ≡ verdict.Stuck S → Says n (finding_of v) (Stuck S)
 told_stuck n v S e = subst (λ x. Says n (finding_of x) (Stuck S)) (sym e) says_stuck
@@ -124,17 +132,17 @@ pub prims_all : (items : List (Arc Item Global)) (i : ℕ) (prims : List Prim) (
 prims_all items i prims lists h e w = w ∙ ap (λ (l : List (Arc Item Global)). run_of (map prims_in l)) (take_all i items h) ∙ ap run_of e
 
 -- ---- the verdict of the items is that of the prims
-pub verdict_told : (n : ℕ) (A B : List Prim) (ss : List Step) (v : Verdict) (a : Answer) → Decides n A B ss (finding_of v) → Says n (finding_of v) a → IsVerdict n A B a
-verdict_told n A B ss v a d s = record { steps = ss; finding = finding_of v; decided = both d; told = s }
+pub verdict_told : (n : ℕ) (A B : List Prim) (mode : Mode) (ss : List Step) (v : Verdict) (a : Answer) → Decides n A B mode ss (finding_of v) → Says n (finding_of v) a → IsVerdict n A B mode a
+verdict_told n A B mode ss v a d s = record { steps = ss; finding = finding_of v; decided = both d; told = s }
 
-pub passed_verdict : (n : ℕ) (A B : List Prim) (e : Evidence) → PassesFirst n A (overrun_of e) → IsVerdict n A B (Passed e.passed)
-passed_verdict n A B e p = record { steps = []; finding = limit (overrun_of e); decided = early p; told = says_passed refl }
+pub passed_verdict : (n : ℕ) (A B : List Prim) (mode : Mode) (e : Evidence) → PassesFirst n A (overrun_of e) → IsVerdict n A B mode (Passed e.passed)
+passed_verdict n A B mode e p = record { steps = []; finding = limit (overrun_of e); decided = early p; told = says_passed refl }
 
 not_yes : (p : Limit) → Passed p ≢ Yes
 not_yes p e = cc
 
 pub passed_proves : (n : ℕ) (A B : List Prim) (e : Evidence) → PassesFirst n A (overrun_of e) → Proves n A B (Passed e.passed)
-passed_proves n A B e p = other (passed_verdict n A B e p) (not_yes e.passed)
+passed_proves n A B e p = other (passed_verdict n A B Exact e p) (not_yes e.passed)
 
 -- ---- derivations
 -- what a record with a yes came to
@@ -142,25 +150,25 @@ record KeptAs (o : Outcome) (ms : List Move) : Type 0 where
   pub sum : PathSum
   pub is : o ≡ kept sum ms
 
-kept_first : {o u : Outcome} {ss : List Step} {f : Finding} (ms : List Move) (b : Body) → f ≡ yes → Compares o u ss f → o ≡ outcome_by ms b → KeptAs o ms
+kept_first : {o u : Outcome} {ss : List Step} {f : Finding} (ms : List Move) (b : Body) → f ≡ yes → Compares Exact o u ss f → o ≡ outcome_by ms b → KeptAs o ms
 kept_first ms (body.Sum s) e c f = record { sum = s.value; is = f }
 kept_first ms (body.Passed w) e c f = absurd (no_first e c f)
   where
-    no_first : {o u : Outcome} {ss : List Step} {g : Finding} → g ≡ yes → Compares o u ss g → o ≡ outcome_by ms (body.Passed w) → ⊥
+    no_first : {o u : Outcome} {ss : List Step} {g : Finding} → g ≡ yes → Compares Exact o u ss g → o ≡ outcome_by ms (body.Passed w) → ⊥
     no_first e first_limit f = cc
     no_first e second_limit f = cc
     no_first e (sums x) f = cc
 
-kept_second : {o u : Outcome} {ss : List Step} {f : Finding} (ms : List Move) (b : Body) → f ≡ yes → Compares o u ss f → u ≡ outcome_by ms b → KeptAs u ms
+kept_second : {o u : Outcome} {ss : List Step} {f : Finding} (ms : List Move) (b : Body) → f ≡ yes → Compares Exact o u ss f → u ≡ outcome_by ms b → KeptAs u ms
 kept_second ms (body.Sum s) e c f = record { sum = s.value; is = f }
 kept_second ms (body.Passed w) e c f = absurd (no_second e c f)
   where
-    no_second : {o u : Outcome} {ss : List Step} {g : Finding} → g ≡ yes → Compares o u ss g → u ≡ outcome_by ms (body.Passed w) → ⊥
+    no_second : {o u : Outcome} {ss : List Step} {g : Finding} → g ≡ yes → Compares Exact o u ss g → u ≡ outcome_by ms (body.Passed w) → ⊥
     no_second e first_limit f = cc
     no_second e second_limit f = cc
     no_second e (sums x) f = cc
 
-pub derivation_told : (n : ℕ) (I K : List (List Prim)) (j : Judged) (d : Derivation) → Decides n (run_of I) (run_of K) j.steps (finding_of j.verdict)
+pub derivation_told : (n : ℕ) (I K : List (List Prim)) (j : Judged) (d : Derivation) → Decides n (run_of I) (run_of K) Exact j.steps (finding_of j.verdict)
     → IsRecordOf n I (Fills n (run_of I)) j.first.value → IsRecordOf n K (Fills n (run_of K)) j.second.value
     → j.verdict ≡ verdict.Yes → d.lines ≡ derivation_of j → Derives j d.lines → Proves n (run_of I) (run_of K) (Proof d)
 derivation_told n I K j d dec r1 r2 v ls h = derived (record {
@@ -172,18 +180,18 @@ derivation_told n I K j d dec r1 r2 v ls h = derived (record {
   last = h.last;
   first_fills = subst (Fills n (run_of I)) k1.is r1.outcome;
   second_fills = subst (Fills n (run_of K)) k2.is r2.outcome;
-  compares = subst (λ o. Compares o (kept k2.sum j.second.value.moves) j.steps yes) k1.is (subst (λ o. Compares (outcome_of j.first.value) o j.steps yes) k2.is (subst (Compares (outcome_of j.first.value) (outcome_of j.second.value) j.steps) f c));
+  compares = subst (λ o. Compares Exact o (kept k2.sum j.second.value.moves) j.steps yes) k1.is (subst (λ o. Compares Exact (outcome_of j.first.value) o j.steps yes) k2.is (subst (Compares Exact (outcome_of j.first.value) (outcome_of j.second.value) j.steps) f c));
   lines = ls;
   holds = subst (λ m. Holds m (run_of I) (run_of K) d.lines h.last) r1.n_is (subst (λ (x : List (List Prim)). Holds j.first.value.n (run_of x) (run_of K) d.lines h.last) r1.items_are (subst (λ (x : List (List Prim)). Holds j.first.value.n (run_of j.first.value.items.value) (run_of x) d.lines h.last) r2.items_are h.holds));
   unit = h.unit;
-  same = subst (λ (g : Finding). IsJustified n (run_of I) (run_of K) g) f dec.justified;
+  same = (subst (λ (g : Finding). IsJustified n (run_of I) (run_of K) Exact g) f dec.justified).1;
 })
   where
     f : finding_of j.verdict ≡ yes
     f = ap finding_of v
 
-    c : Compares (outcome_of j.first.value) (outcome_of j.second.value) j.steps (finding_of j.verdict)
-    c = subst (λ o. Compares o (outcome_of j.second.value) j.steps (finding_of j.verdict)) (fills_only dec.first_fills r1.outcome) (subst (λ o. Compares dec.first o j.steps (finding_of j.verdict)) (fills_only dec.second_fills r2.outcome) dec.compares)
+    c : Compares Exact (outcome_of j.first.value) (outcome_of j.second.value) j.steps (finding_of j.verdict)
+    c = subst (λ o. Compares Exact o (outcome_of j.second.value) j.steps (finding_of j.verdict)) (fills_only dec.first_fills r1.outcome) (subst (λ o. Compares Exact dec.first o j.steps (finding_of j.verdict)) (fills_only dec.second_fills r2.outcome) dec.compares)
 
     k1 : KeptAs (outcome_of j.first.value) j.first.value.moves
     k1 = kept_first j.first.value.moves j.first.value.body f c refl
@@ -197,6 +205,14 @@ says_yes_back n f a (says_no {input = i} p q) e = absurd (no_no i e)
   where
     no_no : (i : Input) → No i ≡ Yes → ⊥
     no_no i e = cc
+says_yes_back n f a (says_yes_phase {p = p}) e = absurd (no_phase p e)
+  where
+    no_phase : (p : ℕ) → YesPhase p ≡ Yes → ⊥
+    no_phase p e = cc
+says_yes_back n f a (says_no_pair {first = i} {second = k} p q x y) e = absurd (no_two i k e)
+  where
+    no_two : (i k : Input) → NoPair i k ≡ Yes → ⊥
+    no_two i k e = cc
 says_yes_back n f a (says_stuck {S = S}) e = absurd (no_stuck S e)
   where
     no_stuck : (S : PathSum) → Stuck S ≡ Yes → ⊥
@@ -208,15 +224,17 @@ says_yes_back n f a (says_passed {passed = p} q) e = absurd (no_passed p e)
 
 found_yes : (v : Verdict) → finding_of v ≡ yes → v ≡ verdict.Yes
 found_yes verdict.Yes e = refl
+found_yes (verdict.YesPhase p) e = cc
 found_yes (verdict.No b) e = cc
+found_yes (verdict.NoPair b c) e = cc
 found_yes (verdict.Stuck S) e = cc
 found_yes (verdict.Passed w) e = cc
 
 no_other_yes : (n : ℕ) (v : Verdict) (a : Answer) → (v ≡ verdict.Yes → ⊥) → Says n (finding_of v) a → a ≢ Yes
 no_other_yes n v a h s e = h (found_yes v (says_yes_back n (finding_of v) a s e))
 
-pub other_told : (n : ℕ) (A B : List Prim) (ss : List Step) (v : Verdict) (a : Answer) → Decides n A B ss (finding_of v) → (v ≡ verdict.Yes → ⊥) → Says n (finding_of v) a → Proves n A B a
-other_told n A B ss v a d h s = other (verdict_told n A B ss v a d s) (no_other_yes n v a h s)
+pub other_told : (n : ℕ) (A B : List Prim) (ss : List Step) (v : Verdict) (a : Answer) → Decides n A B Exact ss (finding_of v) → (v ≡ verdict.Yes → ⊥) → Says n (finding_of v) a → Proves n A B a
+other_told n A B ss v a d h s = other (verdict_told n A B Exact ss v a d s) (no_other_yes n v a h s)
 
 -- ---- replays
 accepted_only : (r : Replayed) (a : Answer) → Echoes r a → a ≡ Accepted → r ≡ replayed.Accepted

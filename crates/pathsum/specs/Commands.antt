@@ -1,13 +1,14 @@
 -- The words of the commands.
 use Rattle.std.specs.Prelude.{ℕ, ◌≡◌, List, [], ◌∷◌, codes}
 use Rattle.pathsum.specs.declared.commands.Command.{Command}
-use Rattle.pathsum.specs.declared.commands.Command.TheVariants.{Same, Prove, Replay}
+use Rattle.pathsum.specs.declared.commands.Command.TheVariants.{Same, SamePhase, Prove, Replay}
 
-abbrev pub word_of : Command → List ℕ
-word_of Same = codes "same"
-word_of Prove = codes "prove"
-word_of Replay = codes "replay"
+abbrev pub words_of : Command → List (List ℕ)
+words_of Same = codes "same" ∷ []
+words_of SamePhase = codes "same" ∷ codes "phase" ∷ []
+words_of Prove = codes "prove" ∷ []
+words_of Replay = codes "replay" ∷ []
 
--- the words are the one word of the command
+-- the words are those of the command
 abbrev pub IsCommand : Command → List (List ℕ) → Type 0
-IsCommand c words = words ≡ word_of c ∷ []
+IsCommand c words = words ≡ words_of c

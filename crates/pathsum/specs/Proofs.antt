@@ -5,6 +5,7 @@ use Rattle.ps_prim.specs.Maps.{SameMap}
 use Rattle.ps_sum.specs.declared.sums.PathSum.{PathSum}
 use Rattle.ps_rules.specs.declared.steps.Step.{Step}
 use Rattle.ps_rules.specs.declared.steps.Move.{Move}
+use Rattle.ps_reach.specs.declared.mode.Mode.TheVariants.{Exact, Phase}
 use Rattle.ps_reach.specs.Fillings.{Fills, kept}
 use Rattle.ps_reach.specs.Findings.{Compares, yes, IsUnit}
 use Rattle.ps_steps.specs.declared.derivation.Derivation.{Derivation}
@@ -31,7 +32,7 @@ pub record IsDerivation (n : ℕ) (A B : List Prim) (d : Derivation) : Type 0 wh
   pub last : PathSum
   pub first_fills : Fills n A (kept first first_moves)
   pub second_fills : Fills n B (kept second second_moves)
-  pub compares : Compares (kept first first_moves) (kept second second_moves) steps yes
+  pub compares : Compares Exact (kept first first_moves) (kept second second_moves) steps yes
   pub lines : d.lines ≡ lines_by first_moves second_moves steps
   pub holds : Holds n A B d.lines last
   pub unit : IsUnit last
@@ -40,7 +41,7 @@ pub record IsDerivation (n : ℕ) (A B : List Prim) (d : Derivation) : Type 0 wh
 -- a yes is told by its derivation, and each other verdict as it is
 pub data Proves (n : ℕ) (A B : List Prim) : Answer → Type 0 where
   derived : {d : Derivation} → IsDerivation n A B d → Proves n A B (Proof d)
-  other : {answer : Answer} → IsVerdict n A B answer → answer ≢ Yes → Proves n A B answer
+  other : {answer : Answer} → IsVerdict n A B Exact answer → answer ≢ Yes → Proves n A B answer
 
 -- the answer tells what a replay came to
 pub data Echoes : Replayed → Answer → Type 0 where
@@ -57,6 +58,7 @@ pub record IsReplay (n : ℕ) (A B : List Prim) (bytes : List ℕ) (answer : Ans
 
 -- what a command does with two lists of prims and the bytes of a derivation
 abbrev pub Works : Command → ℕ → List Prim → List Prim → List ℕ → Answer → Type 0
-Works command.Same n A B d answer = IsVerdict n A B answer
+Works command.Same n A B d answer = IsVerdict n A B Exact answer
+Works command.SamePhase n A B d answer = IsVerdict n A B Phase answer
 Works command.Prove n A B d answer = Proves n A B answer
 Works command.Replay n A B d answer = IsReplay n A B d answer

@@ -1,7 +1,7 @@
 -- Where an input is split.
 use Rattle.std.specs.Prelude.{ℕ, ◌≡◌, ◌+◌, ◌≤◌, ◌⊎◌, List, [], ◌∷◌, ◌++◌, length, codes}
 use Rattle.pathsum.specs.declared.commands.Command.{Command}
-use Rattle.pathsum.specs.declared.commands.Command.TheVariants.{Same, Prove, Replay}
+use Rattle.pathsum.specs.declared.commands.Command.TheVariants.{Same, SamePhase, Prove, Replay}
 
 -- the separator without its LF
 pub data IsMark (mark : List ℕ) : Type 0 where
@@ -64,11 +64,13 @@ pub record OneOnly (bytes : List ℕ) : Type 0 where
 
 abbrev pub IsParted : Command → List ℕ → List ℕ → List ℕ → ℕ → List ℕ → Type 0
 IsParted Same bytes a b start d = InTwo bytes a b start d
+IsParted SamePhase bytes a b start d = InTwo bytes a b start d
 IsParted Prove bytes a b start d = InTwo bytes a b start d
 IsParted Replay bytes a b start d = InThree bytes a b start d
 
 -- a separator is missing
 abbrev pub Lacks : Command → List ℕ → Type 0
 Lacks Same bytes = NoSplit bytes
+Lacks SamePhase bytes = NoSplit bytes
 Lacks Prove bytes = NoSplit bytes
 Lacks Replay bytes = NoSplit bytes ⊎ OneOnly bytes

@@ -1,14 +1,15 @@
-ghost use Rattle.std.specs.Prelude.{◌≡◌, ◌++◌, ◌∷◌, [], ◌≤◌, map, IfOk, codes, decimal};
+ghost use Rattle.std.specs.Prelude.{◌≡◌, ◌++◌, ◌∷◌, [], ◌≤◌, map, IfOk, OnOk, codes, decimal};
 ghost use Rattle.ps_mono.specs.Sets.{stands};
 ghost use Rattle.ps_overlap.specs.Overlapping.{point};
 ghost use Rattle.ps_sum.specs.Texts.{sum_text};
-ghost use Rattle.pathsum.specs.Answers.{status_of, text_of, limit_words, why_words};
+ghost use Rattle.pathsum.specs.Answers.{status_of, text_of, turn_text, limit_words, why_words};
 ghost use Rattle.pathsum.specs.Inputs.{bit_code};
 ghost use Rattle.pathsum.specs.Names.{refusal_name};
 
 use super::input::Input;
 use super::refusals::Refusal;
 use ps_replay::Why;
+use ps_ring::Phase;
 use ps_steps::{Derivation, text};
 use ps_sum::{Passed, PathSum, What};
 use std::alloc::{AllocError, Global};
@@ -20,8 +21,12 @@ pub enum Answer {
     Yes,
     /// The two circuits are one linear map, as this derivation shows.
     Proof(Derivation),
-    /// The two circuits differ at this input.
+    /// The second circuit is the linear map of the first turned by this phase.
+    YesPhase(Phase),
+    /// The two circuits differ at this input; or, up to a phase, none will do there.
     No(Input),
+    /// No one phase will do for the two circuits at these two inputs.
+    NoPair(Input, Input),
     /// No rule reduces this sum, to which the overlap of the two circuits comes.
     Stuck(PathSum),
     /// A limit was passed on the way.
@@ -59,7 +64,9 @@ impl Answer {
         match self {
             Answer::Yes => 0,
             Answer::Proof(_) => 0,
+            Answer::YesPhase(_) => 0,
             Answer::No(_) => 1,
+            Answer::NoPair(..) => 1,
             Answer::Stuck(_) => 2,
             Answer::Passed(_) => 2,
             Answer::Accepted => 0,
@@ -80,7 +87,9 @@ impl Answer {
         match self {
             Answer::Yes => b"yes\n".to_vec(alloc),
             Answer::Proof(derivation) => text(alloc, derivation),
+            Answer::YesPhase(phase) => phase_line(alloc, *phase),
             Answer::No(input) => no_line(alloc, input),
+            Answer::NoPair(first, second) => no_pair_line(alloc, first, second),
             Answer::Stuck(sum) => stuck_line(alloc, sum),
             Answer::Passed(passed) => passed_line(alloc, passed),
             Answer::Accepted => b"accepted\n".to_vec(alloc),
@@ -95,15 +104,49 @@ impl Answer {
     }
 }
 
+// `yes phase` with the phase as a part of a turn.
+fn phase_line(alloc: Global, phase: Phase) -> Result<Vec<u8>, AllocError>
+    ensures { IfOk result (λ v. v.items ≡ codes "yes phase " ++ turn_text phase ++ codes "\n") }
+{
+    if phase.units() == 0 {
+        return b"yes phase 0\n".to_vec(alloc);
+    }
+    let power = phase.power();
+    let above = phase.units() as u64 >> power;
+    let below = 1u64 << (32 - power);
+    let line = format!(in alloc; "yes phase {above}/{below}\n")?;
+    Ok(line.into_bytes())
+}
+
+// Puts a digit for each qubit behind the line.
+fn push_digits(line: &mut Vec<u8>, input: &Input) -> Result<(), AllocError>
+    ensures { OnOk result (line.new.items ≡ line.old.items ++ map bit_code (point input.now.qubits input.now.at)) }
+{
+    let at = input.at;
+    for v in 0..input.qubits as u16 {
+        line.push(if at.get(v) { b'1' } else { b'0' })?;
+    }
+    Ok(())
+}
+
 // `no` with a digit for each qubit.
 fn no_line(alloc: Global, input: &Input) -> Result<Vec<u8>, AllocError>
     ensures { IfOk result (λ v. v.items ≡ codes "no " ++ map bit_code (point input.now.qubits input.now.at) ++ codes "\n") }
 {
     let mut line = b"no ".to_vec(alloc)?;
-    let at = input.at;
-    for v in 0..input.qubits as u16 {
-        line.push(if at.get(v) { b'1' } else { b'0' })?;
-    }
+    push_digits(&mut line, input)?;
+    line.push(b'\n')?;
+    Ok(line)
+}
+
+// `no` with a digit for each qubit of the one input, and of the other.
+fn no_pair_line(alloc: Global, first: &Input, second: &Input) -> Result<Vec<u8>, AllocError>
+    ensures { IfOk result (λ v. v.items ≡ codes "no " ++ map bit_code (point first.now.qubits first.now.at) ++ codes " " ++ map bit_code (point second.now.qubits second.now.at) ++ codes "\n") }
+{
+    let mut line = b"no ".to_vec(alloc)?;
+    push_digits(&mut line, first)?;
+    line.push(b' ')?;
+    push_digits(&mut line, second)?;
     line.push(b'\n')?;
     Ok(line)
 }

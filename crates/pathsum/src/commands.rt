@@ -9,7 +9,9 @@ ghost use Rattle.pathsum.specs.Commands.{IsCommand};
 pub enum Command {
     /// Whether two circuits are one linear map.
     Same,
-    /// The same, with the derivation where they are.
+    /// Whether they are so up to a global phase.
+    SamePhase,
+    /// Whether they are one linear map, with the derivation where they are.
     Prove,
     /// Whether a derivation shows that two circuits are one linear map.
     Replay,
@@ -21,6 +23,8 @@ pub fn command_of(words: &[String]) -> Option<Command>
 {
     if is_word(words, "same") {
         Some(Command::Same)
+    } else if are_two(words, "same", "phase") {
+        Some(Command::SamePhase)
     } else if is_word(words, "prove") {
         Some(Command::Prove)
     } else if is_word(words, "replay") {
@@ -35,4 +39,14 @@ fn is_word(words: &[String], word: &str) -> bool
     ensures { IsTrue result ↔ (map string_bytes words.now ≡ word.now ∷ []) }
 {
     words.len() == 1 && words[0].as_str() == word
+}
+
+// Whether the words are these two.
+fn are_two(words: &[String], first: &str, second: &str) -> bool
+    ensures { IsTrue result ↔ (map string_bytes words.now ≡ first.now ∷ second.now ∷ []) }
+{
+    if words.len() != 2 {
+        return false;
+    }
+    words[0].as_str() == first && words[1].as_str() == second
 }

@@ -104,6 +104,37 @@ fn texts_with_the_library_are_answered(rt: HostRuntime) -> Result<(), Fail> {
     Ok(())
 }
 
+// The phase of the second text against the first; an eighth of a turn more at one input; no multiple.
+#[test]
+fn texts_are_compared_up_to_a_phase(rt: HostRuntime) -> Result<(), Fail> {
+    let alloc = rt.alloc();
+    let turned = "h q[0];\ns q[0];\nh q[0];\ns q[0];\nh q[0];\ns q[0];\n";
+    let rows: [(&str, &str, u8, &[u8]); 7] = [
+        ("u3(2*pi,0,0) q[0];\n", "", 0, b"yes phase 1/2\n"),
+        ("", turned, 0, b"yes phase 1/8\n"),
+        (turned, "", 0, b"yes phase 7/8\n"),
+        ("h q[0];\nh q[0];\n", "", 0, b"yes phase 0\n"),
+        ("s q[0];\n", "t q[0];\n", 1, b"no 0 1\n"),
+        ("h q[0];\n", "", 1, b"no 0\n"),
+        (
+            "h q[0];\nt q[0];\nh q[0];\n",
+            "",
+            2,
+            b"unknown stuck k=2 m=1 P=7/8*y0 f=-\n",
+        ),
+    ];
+    for (first, second, status, printed) in rows {
+        let input = pair(alloc, 1, first, second)?;
+        assert!(rt;
+            ends_so(
+                alloc,
+                &told(&["same", "phase"], input.as_bytes(), status, printed)
+            )?
+        );
+    }
+    Ok(())
+}
+
 #[test]
 fn a_realistic_pair_is_answered(rt: HostRuntime) -> Result<(), Fail> {
     let alloc = rt.alloc();
@@ -336,6 +367,8 @@ fn words_and_faults_of_the_outside_are_told(rt: HostRuntime) -> Result<(), Fail>
         },
         told(&[], TWICE, 64, b"words\n"),
         told(&["same", "same"], TWICE, 64, b"words\n"),
+        told(&["phase", "phase"], TWICE, 64, b"words\n"),
+        told(&["same", "phase", "phase"], TWICE, 64, b"words\n"),
         told(&["Prove"], TWICE, 64, b"words\n"),
         told(&["gen", "1", "17", "3"], TWICE, 64, b"words\n"),
     ];

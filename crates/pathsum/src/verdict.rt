@@ -4,6 +4,7 @@ ghost use Rattle.std.specs.Prelude.{◌≡◌, ◌*◌, ◌≤◌, ◌↔◌, Li
 ghost use Rattle.ps_prim.specs.declared.prims.Primitive.{Primitive as Prim};
 ghost use Rattle.ps_reach.specs.Runs.{run_of};
 ghost use Rattle.ps_reach.specs.Judging.{finding_of};
+ghost use Rattle.ps_reach.specs.declared.mode.Mode.TheVariants.{Exact};
 ghost use Rattle.ps_reach.specs.declared.verdict.Verdict.TheVariants.{Yes};
 ghost use Rattle.ps_normal.specs.Comparing.{IsBoth, IsDecision};
 ghost use Rattle.pathsum.specs.Verdicts.{Says, IsVerdict};
@@ -15,7 +16,7 @@ use super::input::Input;
 use super::pair::Pair;
 use ps_normal::{Decision, derive};
 use ps_prim::Prim;
-use ps_reach::{Items, Judged, Verdict};
+use ps_reach::{Items, Judged, Mode, Verdict};
 use ps_replay::{Replayed, replay};
 use std::alloc::{AllocError, Global};
 use std::sync::Arc;
@@ -31,18 +32,19 @@ pub fn work(
     ensures { IfOk result (Works command pair.qubits (run_of pair.first) (run_of pair.second) document.now) }
 {
     match command {
-        Command::Same => decide(alloc, pair),
+        Command::Same => decide(alloc, pair, Mode::Exact),
+        Command::SamePhase => decide(alloc, pair, Mode::Phase),
         Command::Prove => prove(alloc, pair),
         Command::Replay => replay_document(alloc, &pair, document),
     }
 }
 
-// Whether two circuits are one linear map.
-fn decide(alloc: Global, pair: Pair) -> Result<Answer, AllocError>
-    ensures { IfOk result (IsVerdict pair.qubits (run_of pair.first) (run_of pair.second)) }
+// Whether two circuits are one linear map, or are so up to a phase.
+fn decide(alloc: Global, pair: Pair, mode: Mode) -> Result<Answer, AllocError>
+    ensures { IfOk result (IsVerdict pair.qubits (run_of pair.first) (run_of pair.second) mode) }
 {
     let qubits = pair.qubits;
-    match decided(alloc, pair)? {
+    match decided(alloc, pair, mode)? {
         Decision::Judged(judged) => Ok(told(qubits, judged.verdict)),
         Decision::Passed(evidence) => Ok(Answer::Passed(evidence.passed)),
     }
@@ -53,7 +55,7 @@ fn prove(alloc: Global, pair: Pair) -> Result<Answer, AllocError>
     ensures { IfOk result (Proves pair.qubits (run_of pair.first) (run_of pair.second)) }
 {
     let qubits = pair.qubits;
-    match decided(alloc, pair)? {
+    match decided(alloc, pair, Mode::Exact)? {
         Decision::Judged(judged) => derived(alloc, qubits, judged),
         Decision::Passed(evidence) => Ok(Answer::Passed(evidence.passed)),
     }
@@ -62,7 +64,7 @@ fn prove(alloc: Global, pair: Pair) -> Result<Answer, AllocError>
 // The derivation of a yes, or what else was found.
 fn derived(alloc: Global, qubits: u32, judged: Judged) -> Result<Answer, AllocError>
     requires { qubits ≤ 64 }
-    ensures { IfOk result (λ a. (first second : List (List Prim)) → IsBoth qubits first second judged → Proves qubits (run_of first) (run_of second) a) }
+    ensures { IfOk result (λ a. (first second : List (List Prim)) → IsBoth qubits first second Exact judged → Proves qubits (run_of first) (run_of second) a) }
 {
     if is_yes(&judged.verdict) {
         Ok(Answer::Proof(derive(alloc, &judged)?))
@@ -83,13 +85,13 @@ fn replay_document(alloc: Global, pair: &Pair, document: &[u8]) -> Result<Answer
 }
 
 // What two circuits come to.
-fn decided(alloc: Global, pair: Pair) -> Result<Decision, AllocError>
-    ensures { IfOk result (IsDecision pair.qubits pair.first pair.second) }
+fn decided(alloc: Global, pair: Pair, mode: Mode) -> Result<Decision, AllocError>
+    ensures { IfOk result (IsDecision pair.qubits pair.first pair.second mode) }
 {
     let qubits = pair.qubits;
     let first = Arc::new(alloc, segment(pair.first))?;
     let second = Arc::new(alloc, segment(pair.second))?;
-    ps_normal::decide(alloc, &first, &second, qubits)
+    ps_normal::decide(alloc, &first, &second, qubits, mode)
 }
 
 // The items as those of a segment.
@@ -116,7 +118,9 @@ fn is_yes(verdict: &Verdict) -> bool
 {
     match verdict {
         Verdict::Yes => true,
+        Verdict::YesPhase(_) => false,
         Verdict::No(_) => false,
+        Verdict::NoPair(..) => false,
         Verdict::Stuck(_) => false,
         Verdict::Passed(_) => false,
     }
@@ -129,7 +133,12 @@ fn told(qubits: u32, verdict: Verdict) -> Answer
 {
     match verdict {
         Verdict::Yes => Answer::Yes,
+        Verdict::YesPhase(phase) => Answer::YesPhase(phase),
         Verdict::No(at) => Answer::No(Input { qubits, at }),
+        Verdict::NoPair(first, second) => Answer::NoPair(
+            Input { qubits, at: first },
+            Input { qubits, at: second },
+        ),
         Verdict::Stuck(sum) => Answer::Stuck(sum),
         Verdict::Passed(evidence) => Answer::Passed(evidence.passed),
     }

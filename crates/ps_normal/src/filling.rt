@@ -119,8 +119,9 @@ pub fn fill_items<S: Stop>(
 ///
 /// The first prim's leaf is reduced, and each next prim's leaf is reduced, put behind, and the result
 /// reduced; no prim gives the identity. Of two segments the sums are put together and reduced. It
-/// asks whether to stop at each prim and before each step; `Stopped` comes only where the answer was
-/// yes. The reduced leaves of some prims are kept meanwhile. `AllocError` is want of memory.
+/// asks whether to stop before each prim and before each step, and nowhere else; `Stopped` comes only
+/// where the answer was yes. The reduced leaves of some prims are kept meanwhile, and where one is met
+/// again its steps count as steps. `AllocError` is want of memory.
 ///
 /// Condition: 1 to 64 qubits, at most 65,536 items, all on these qubits; and two records are of as
 /// many qubits and have sums.

@@ -121,20 +121,12 @@ fn is_still(sum: &Running, among: &Option<Mono>) -> bool
 }
 
 // The joined sum, which no step reduces. Its terms may go on waiting.
-fn still_part<S: Stop>(
-    sum: Running,
-    moves: &mut Vec<Move>,
-    stop: &mut S,
-) -> Result<Part, AllocError>
+fn still_part(sum: Running, moves: &mut Vec<Move>) -> Result<Part, AllocError>
     requires still { IsIrreducible sum }
     ensures part { IfOk result (λ p. (from middle to : ℕ) (S1 S2 : PathSum) → JoinFits S1 S2 → IsJoinOf S1 S2 sum → PartIs (Joins from middle to S1 S2 moves.old.items) moves.new.items p) }
     ensures usable { IfOk result (λ p. (n count : ℕ) → Usable n count sum → UsablePart n count p) }
-    ensures stopped { IfOk result (λ p. PartRose (S.yeses stop.old) (S.yeses stop.new) p) }
-    ensures never_falls { S.yeses stop.old ≤ S.yeses stop.new }
+    ensures stopped { IfOk result (λ p. (old new : ℕ) → PartRose old new p) }
 {
-    if stop.asked() {
-        return Ok(Part::Stopped);
-    }
     moves.push(Move::Join)?;
     Ok(Part::Sum(sum))
 }
@@ -202,7 +194,7 @@ pub fn join_part<S: Stop>(
     match join_gate(alloc, first, gate) {
         Ok(sum) => {
             if is_still(&sum, &among) {
-                return still_part(sum, moves, stop);
+                return still_part(sum, moves);
             }
             let ended = reduce_joined(alloc, sum, among, steps, stop)?;
             ended_part(alloc, places, Move::Join, ended, moves, steps)

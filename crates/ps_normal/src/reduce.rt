@@ -67,21 +67,23 @@ fn reduce_from<S: Stop>(
     let mut current = sum;
     let mut next = first;
     'reducing: loop {
-        if stop.asked() {
-            return Ok(Ended::Stopped);
-        }
         match next {
             None => return Ok(Ended::Normal(current)),
-            Some(step) => match advance(alloc, current, step) {
-                Ok(reduced) => {
-                    steps.push(step)?;
-                    current = reduced;
-                    next = find(&current);
+            Some(step) => {
+                if stop.asked() {
+                    return Ok(Ended::Stopped);
                 }
-                Err(Refused::Passed { passed, sum }) => return Ok(Ended::Over { passed, sum }),
-                Err(Refused::NotARedex(_)) => unreachable!(),
-                Err(Refused::Memory) => return Err(AllocError),
-            },
+                match advance(alloc, current, step) {
+                    Ok(reduced) => {
+                        steps.push(step)?;
+                        current = reduced;
+                        next = find(&current);
+                    }
+                    Err(Refused::Passed { passed, sum }) => return Ok(Ended::Over { passed, sum }),
+                    Err(Refused::NotARedex(_)) => unreachable!(),
+                    Err(Refused::Memory) => return Err(AllocError),
+                }
+            }
         }
     }
 }

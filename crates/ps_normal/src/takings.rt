@@ -1,6 +1,7 @@
 //! The prims of a segment, one behind the other.
 
-ghost use Rattle.std.specs.Prelude.{◌≡◌, ℕ, ◌<◌, ◌≤◌, ◌+◌, ◌++◌, ◌∷◌, [], List, length, Some, IfOk, OnOk};
+ghost use Rattle.std.specs.Prelude.{◌≡◌, ℕ, ◌<◌, ◌≤◌, ◌+◌, ◌++◌, ◌∷◌, [], List, length, Some, IfOk, OnOk, IsTrue};
+ghost use Rattle.ps_io.specs.Counts.{Rose};
 ghost use Rattle.ps_prim.specs.declared.prims.Primitive.{Primitive as Prim};
 ghost use Rattle.ps_prim.specs.Maps.{IsWithin, AllWithin};
 ghost use Rattle.ps_reach.specs.Runs.{run_of};
@@ -53,14 +54,13 @@ fn take_kept<S: Stop>(
 
 // The prim at a place, whose sum has no path variable, behind the sum of those before it. No step applies
 // to its sum, and none to what comes of the join.
-fn take_plain<S: Stop>(
+fn take_plain(
     alloc: Global,
     n: u32,
     prim: &Prim,
     sum: Running,
     place: u32,
     moves: &mut Vec<Move>,
-    stop: &mut S,
 ) -> Result<Part, AllocError>
     requires width { (1 ≤ n) × (n ≤ 64) }
     requires within { IsWithin n prim.now }
@@ -69,15 +69,11 @@ fn take_plain<S: Stop>(
     requires plain { IsPlainPrim prim.now }
     ensures taken { IfOk result (λ p. (A more : List Prim) → IsProgress n A (prim.now ∷ more) (Some sum) place moves.old.items → IsTaken n A more (place + 1) moves.new.items p) }
     ensures usable { IfOk result (λ p. UsablePart n (place + 1) p) }
-    ensures stopped { IfOk result (λ p. PartRose (S.yeses stop.old) (S.yeses stop.new) p) }
-    ensures never_falls { S.yeses stop.old ≤ S.yeses stop.new }
+    ensures stopped { IfOk result (λ p. (old new : ℕ) → PartRose old new p) }
 {
     moves.push(Move::Leaf(place))?;
     match join_prim(alloc, sum, prim) {
         Ok(joined) => {
-            if stop.asked() {
-                return Ok(Part::Stopped);
-            }
             moves.push(Move::Join)?;
             Ok(Part::Sum(joined))
         }
@@ -137,6 +133,19 @@ fn take_new<S: Stop>(
     }
 }
 
+// Whether to stop, asked before each of the steps of a leaf that is kept, until the answer is yes.
+fn asked_before<S: Stop>(steps: &[Step], stop: &mut S) -> bool
+    ensures yes { IsTrue result → Rose (S.yeses stop.old) (S.yeses stop.new) }
+    ensures never_falls { S.yeses stop.old ≤ S.yeses stop.new }
+{
+    'steps: for _step in steps {
+        if stop.asked() {
+            return true;
+        }
+    }
+    false
+}
+
 // The prim at a place behind the sum of those before it.
 fn take_next<S: Stop>(
     alloc: Global,
@@ -160,10 +169,13 @@ fn take_next<S: Stop>(
     ensures never_falls { S.yeses stop.old ≤ S.yeses stop.new }
 {
     if is_plain(prim) {
-        return take_plain(alloc, n, prim, sum, place, moves, stop);
+        return take_plain(alloc, n, prim, sum, place, moves);
     }
     match kept_leaf(&work.leaves, prim) {
         Some(kept) => {
+            if asked_before(&kept.steps, stop) {
+                return Ok(Part::Stopped);
+            }
             push_moves(moves, Move::Leaf(place), &kept.steps)?;
             take_kept(
                 alloc,
@@ -234,6 +246,9 @@ fn take_prims<S: Stop>(
     let mut held = held;
     let mut at = place;
     'prims: for prim in prims {
+        if stop.asked() {
+            return Ok(Taken::Stopped);
+        }
         match take_prim(alloc, n, prim, held, at, moves, work, stop)? {
             Part::Sum(sum) => held = Some(sum),
             Part::Over(evidence) => return Ok(Taken::Over(evidence)),

@@ -27,6 +27,21 @@ impl Stop for Always {
     }
 }
 
+// Answers no each time, and counts how often it is asked.
+#[derive(Drop)]
+struct Counting {
+    calls: u64,
+}
+
+impl Stop for Counting {
+    ghost yeses = { λ _. 0 };
+
+    fn asked(&mut self) -> bool {
+        self.calls = self.calls.saturating_add(1);
+        false
+    }
+}
+
 fn hadamard() -> Prim
     ensures { result ≡ U 536870912 0 1073741824 0 }
 {
@@ -79,6 +94,12 @@ fn one_hadamard(alloc: Global) -> Result<Arc<Items>, AllocError>
     ensures { IfOk result (λ s. CanRun 1 s.value) }
 {
     one_item(alloc, vec![in alloc; hadamard()]?)
+}
+
+fn three_hadamards(alloc: Global) -> Result<Arc<Items>, AllocError>
+    ensures { IfOk result (λ s. CanRun 1 s.value) }
+{
+    one_item(alloc, vec![in alloc; hadamard(), hadamard(), hadamard()]?)
 }
 
 fn one_eighth(alloc: Global) -> Result<Arc<Items>, AllocError>
@@ -144,6 +165,34 @@ fn a_stop_is_heard(rt: HostRuntime) -> Result<(), Fail> {
         Filled::Done(_) => assert!(rt; false),
         Filled::Stopped => assert_eq!(rt; always.count, 1),
     }
+    Ok(())
+}
+
+// How often filling the items asks whether to stop.
+fn asks(alloc: Global, items: Arc<Items>) -> Result<u64, AllocError>
+    requires { CanRun 1 items.value }
+{
+    let task = Task {
+        seat: 0,
+        claim: 0,
+        n: 1,
+        work: Work::Items(items),
+    };
+    let mut stop = Counting { calls: 0 };
+    let _filled = fill(alloc, &task, &mut stop)?;
+    Ok(stop.calls)
+}
+
+// Once for each leaf and each rewriting of the derivations below: of a Hadamard one rewriting, of two of
+// them one more; and those of the third, whose leaf is known, too.
+#[test]
+fn it_asks_before_each_prim_and_step(rt: HostRuntime) -> Result<(), Fail> {
+    let alloc = rt.alloc();
+    assert_eq!(rt; asks(alloc, nothing(alloc)?)?, 0);
+    assert_eq!(rt; asks(alloc, one_eighth(alloc)?)?, 1);
+    assert_eq!(rt; asks(alloc, one_hadamard(alloc)?)?, 2);
+    assert_eq!(rt; asks(alloc, hadamards(alloc)?)?, 5);
+    assert_eq!(rt; asks(alloc, three_hadamards(alloc)?)?, 7);
     Ok(())
 }
 

@@ -10,5 +10,5 @@ prims-preserved g c = record {
   walk = walk_more c.args.n c.args.place c.args.prims.now c.args.held c.prims.held c.args.moves.now.items c.prims.moves.items c.take_prim.new.moves.items c.prims.prim-index c.prims.at c.prim-item.result c.in-Sum.sum c.in_ok-sum.field-0
       c.prims-test.true c.prim-item.is c.prims.invariant.walk c.in-Sum.is c.in_ok-sum.ensures.taken c.in_ok-sum.ensures.usable;
   table = c.in_ok-sum.ensures.table;
-  never_falls = omega (arith, c.prims.invariant.never_falls, c.take_prim.ensures.never_falls);
+  never_falls = omega (arith, c.prims.invariant.never_falls, c.asked.ensures.never_falls, c.take_prim.ensures.never_falls);
 }

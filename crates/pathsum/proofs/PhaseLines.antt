@@ -1,0 +1,16 @@
+-- The line that tells a phase.
+use Rattle.std.proofs.Common.{◌≡◌, ℕ, zero, suc, ◌-◌, ◌/◌, ◌^◌, refl, ap, sym, ◌∙◌, List, [], ◌∷◌, ◌++◌, codes, decimal, append_assoc}
+use Rattle.ps_sum.specs.Texts.{fraction_text}
+use Rattle.ps_sum.proofs.Counting.{Power}
+use Rattle.ps_sum.proofs.Texting.{fraction_is}
+use Rattle.pathsum.specs.Answers.{turn_text}
+
+turn_is : (u : ℕ) → (u ≡ 0 → ⊥) → fraction_text u ≡ turn_text u
+turn_is zero n = absurd (n refl)
+turn_is (suc u) n = refl
+
+-- a phase that is not 0 is told as its fraction
+pub fraction_line : (u r a b : ℕ) (line : List ℕ) → Power u r → a ≡ u / 2 ^ r → b ≡ 2 ^ (32 - r) → (u ≡ 0 → ⊥) → line ≡ codes "yes phase " ++ (decimal a ++ (codes "/" ++ (decimal b ++ codes "\n"))) → line ≡ codes "yes phase " ++ (turn_text u ++ codes "\n")
+fraction_line u r a b line p ea eb n e =
+    let f : decimal a ++ (codes "/" ++ decimal b) ≡ fraction_text u = fraction_is u r a b [] (decimal a ++ (codes "/" ++ decimal b)) p ea eb refl in
+    e ∙ ap (λ (t : List ℕ). codes "yes phase " ++ t) (sym (append_assoc (decimal a) (codes "/" ++ decimal b) (codes "\n")) ∙ ap (λ (t : List ℕ). t ++ codes "\n") (f ∙ turn_is u n))
