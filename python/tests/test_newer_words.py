@@ -156,15 +156,35 @@ class Phase(unittest.TestCase):
 
 @unittest.skipUnless(answers("same", "local"), "the program does not know these words yet")
 class Local(unittest.TestCase):
-    def test_an_edit(self):
-        front, back = "h q;\nt q;\nh q;\n" * 40, "h q;\nt q;\n" * 40
-        answer = pathsum.compare(HEAD + front + "x q[0];\n" + back, HEAD + front + "h q[0];\nz q[0];\nh q[0];\n" + back)
-        self.assertEqual((answer.verdict, answer.question), ("yes", "local"))
-        self.assertEqual(answer.shared.first_lines, (124, 124))
-        answer = pathsum.compare(HEAD + front + "x q[0];\n" + back, HEAD + front + back)
-        self.assertEqual((answer.verdict, answer.behind), ("no", 240))
-        answer = pathsum.compare(HEAD + "x q[0];\n" + back, HEAD + back)
-        self.assertEqual((answer.verdict, answer.behind, answer.input.bits), ("no", 0, "00"))
+    """Circuits of 400 gates that no comparison of the whole decides, with one gate rewritten or changed."""
+
+    FRONT, BACK = "h q;\nt q;\nh q;\n" * 40, "h q;\nt q;\n" * 40
+
+    def test_yes(self):
+        first, second = f"{self.FRONT}x q[0];\n{self.BACK}", f"{self.FRONT}h q[0];\nz q[0];\nh q[0];\n{self.BACK}"
+        self.assertEqual(pathsum.same(HEAD + first, HEAD + second).verdict, "unknown")
+        answer = pathsum.compare(HEAD + first, HEAD + second)
+        self.assertEqual((answer.verdict, answer.question, answer.line), ("yes", "local", "yes"))
+        self.assertEqual(answer.shared, pathsum.Shared(240, 160, (124, 124), (124, 126)))
+
+    def test_no(self):
+        """What is left is x against nothing. The gates on q[1] behind it are in front, once they are exchanged with it."""
+        answer = pathsum.compare(f"{HEAD}{self.FRONT}x q[0];\n{self.BACK}", HEAD + self.FRONT + self.BACK)
+        self.assertEqual((answer.verdict, answer.line, answer.behind), ("no", "no 00 behind 320", 320))
+        self.assertEqual(answer.shared, pathsum.Shared(320, 80, (124, 124), (0, -1), True))
+        self.assertIn("was not found", answer.explain())
+
+    def test_no_in_front(self):
+        """Nothing is alike in front, so the input is one of the whole."""
+        back = self.BACK.replace("q;", "q[0];")
+        answer = pathsum.compare(f"{HEAD}x q[0];\n{back}", HEAD + back)
+        self.assertEqual((answer.verdict, answer.line, answer.behind), ("no", "no 00", 0))
+
+    def test_an_input_is_asked_for(self):
+        """Where the whole is decided, its input is told."""
+        answer = pathsum.compare(HEAD + "x q;\nt q[0];\n", HEAD + "x q;\ns q[0];\n")
+        self.assertEqual((answer.question, answer.line, answer.behind), ("same", "no 00", 0))
+        self.assertEqual(answer.shared, pathsum.Shared(2, 0, (5, 5), (5, 5)))
 
 
 if __name__ == "__main__":
