@@ -1,0 +1,97 @@
+//! What the service answers.
+
+use crate::commands::Cmd;
+use ps_reach::{Items, Judged, Record, Task};
+use qasm_expand::FaultName;
+use std::sync::Arc;
+
+/// One turn of the service: who asked what, and what was answered. Entries are numbered from 0.
+pub type Entry = ps_desk::Entry<Cmd, Reply>;
+
+/// One answer of the service.
+#[derive(Drop)]
+pub enum Reply {
+    /// The circuit is open, and so many segments of its first version have no record.
+    Opened {
+        missing: u32,
+    },
+    /// The circuit has this version, so many segments of which have no record.
+    Committed {
+        version: u32,
+        missing: u32,
+    },
+    /// The version is retired. The bits are the seats that have a claim on it.
+    Retired {
+        claims: u64,
+    },
+    /// The seat has pinned the versions.
+    Pinned,
+    /// The seat has a claim on a segment, which this task computes.
+    Task(Task),
+    /// Nothing is to be computed for the pinned versions, which come to these records.
+    Settled {
+        first: Arc<Record>,
+        second: Option<Arc<Record>>,
+    },
+    /// Nothing is to be computed for any version.
+    Idle,
+    /// The record is published.
+    Published,
+    /// The claim stands.
+    Stands,
+    /// The verdict is told, and whether a proof is asked for.
+    Answered {
+        judged: Arc<Judged>,
+        proof: bool,
+    },
+    /// The items of the version.
+    Shown(Arc<Items>),
+    /// The version comes to this record.
+    SumIs(Arc<Record>),
+    /// This entry opened a circuit of the name.
+    NameTaken(u32),
+    /// 256 circuits are there.
+    CircuitsFull,
+    /// The text or the block has this first fault.
+    Bad {
+        name: FaultName,
+        line: u32,
+        column: u32,
+    },
+    /// No circuit has the name.
+    NoCircuit,
+    /// The circuit has no such version; this is its latest one.
+    NoVersion(u32),
+    /// This entry retired the version.
+    WasRetired(u32),
+    /// The version is the latest one.
+    IsLatest,
+    /// The base is not the latest version, which is this one.
+    Stale(u32),
+    /// There is no such range of items in a version with so many.
+    Span(u32),
+    /// The version would have so many items, more than 65,536.
+    TooLong(u32),
+    /// Nothing would change.
+    Nothing,
+    /// The two circuits have these numbers of qubits, which differ.
+    Widths(u32, u32),
+    /// The seat has pinned nothing.
+    NoPin,
+    /// The seat has no claim.
+    NoClaim,
+    /// A record is not of what it should be, or the outcome is one of another command.
+    OtherRun,
+    /// This entry published a record of the segment.
+    Already(u32),
+    /// The version is not kept any more, since this entry.
+    Dropped(u32),
+    /// The kept terms would be so many, more than 8,388,608.
+    NoRoom(u64),
+    /// Nothing was refused for room under the pin.
+    NotCrowded,
+    /// So many segments of the version have no record yet.
+    Unsettled(u32),
+    /// Memory was wanting.
+    Memory,
+}
