@@ -1,8 +1,6 @@
 -- Asking for a segment to compute.
 use Rattle.std.specs.Prelude.{ℕ, suc, ◌≡◌, ◌<◌, ◌≤◌, Bool, true, false, cond, eqb, filter, map, count_by, List, [], ◌∷◌, ◌++◌, slice_set, Option, Some, None}
 use Rattle.std.specs.List.{flat_map, AllByRecursion}
-use Rattle.std.specs.declared.sync.Arc.{Arc}
-use Rattle.std.specs.declared.alloc.Global.{Global}
 use Rattle.seg_tree.specs.Trees.{Tree, leaf, branch, name_of}
 use Rattle.ps_script.specs.declared.name.Place.{Place}
 use Rattle.ps_reach.specs.declared.record.Record.{Record}
@@ -99,17 +97,17 @@ pub data LooksAt (t : State) (seat : ℕ) : Bool → List Standing → Type 0 wh
   all : LooksAt t seat false (kept_versions t)
   own : {pin : Pin} → pin_of t seat ≡ Some pin → LooksAt t seat true (pinned_versions t pin)
 
-abbrev pub SecondComesTo : State → Option Place → Option (Arc Record Global) → Type 0
+abbrev pub SecondComesTo : State → Option Place → Option Record → Type 0
 SecondComesTo t None None = Unit {0}
-SecondComesTo t (Some p) (Some b) = ComesToAt t p b.value
+SecondComesTo t (Some p) (Some b) = ComesToAt t p b
 SecondComesTo t p b = ⊥
 
 -- what entry i of the seat answers, and the state that it leaves; the old claim ends before anything is counted
 pub data Nexts (t : State) (i seat : ℕ) : Bool → Reply → State → Type 0 where
   no_pin : pin_of t seat ≡ None → Nexts t i seat true NoPin (unclaimed seat t)
   idle : AreSettled t.published (kept_versions t) → Nexts t i seat false Idle (unclaimed seat t)
-  settled : {pin : Pin} {a : Arc Record Global} {b : Option (Arc Record Global)} → pin_of t seat ≡ Some pin → AreSettled t.published (pinned_versions t pin)
-      → ComesToAt t pin.first a.value → SecondComesTo t pin.second b → Nexts t i seat true (Settled a b) (unclaimed seat t)
+  settled : {pin : Pin} {a : Record} {b : Option Record} → pin_of t seat ≡ Some pin → AreSettled t.published (pinned_versions t pin)
+      → ComesToAt t pin.first a → SecondComesTo t pin.second b → Nexts t i seat true (Settled a b) (unclaimed seat t)
   gives : {pinned : Bool} {ss : List Standing} {x : Candidate} {node : ℕ} {task : ATask} → LooksAt t seat pinned ss
       → IsFirstOfFewest (unclaimed seat t).claims (candidates t.published ss) x → name_of x.segment ≡ Some node → IsTaskOf t i seat x task
       → Nexts t i seat pinned (Task task) (claimed i seat x.of.place node t)

@@ -57,6 +57,6 @@ pub data Answers (t : State) (i seat : ℕ) : Outcome → Reply → State → Ty
       → Answers t i seat (Judged j proof) OtherRun (unpinned i seat t)
   no_room : {c d : Circuit} {v w : Version} {j : Arc AJudged Global} {proof : Bool} → FindsBoth t seat c d v w → BelongBoth c d v w j.value
       → most_terms < t.terms + size j.value → Answers t i seat (Judged j proof) (NoRoom (t.terms + size j.value)) (unpinned i seat t)
-  answers : {c d : Circuit} {v w : Version} {j k : Arc AJudged Global} {proof : Bool} → FindsBoth t seat c d v w → BelongBoth c d v w j.value
-      → t.terms + size j.value ≤ most_terms → IsJustifiedFor c v w j.value → k.value ≡ j.value
-      → Answers t i seat (Judged j proof) (Answered k proof) (with_terms (size j.value) (unpinned i seat t))
+  answers : {c d : Circuit} {v w : Version} {j : Arc AJudged Global} {proof : Bool} → FindsBoth t seat c d v w → BelongBoth c d v w j.value
+      → t.terms + size j.value ≤ most_terms → IsJustifiedFor c v w j.value
+      → Answers t i seat (Judged j proof) (Answered j.value proof) (with_terms (size j.value) (unpinned i seat t))

@@ -1,6 +1,7 @@
 pub mod State
 pub mod Segments
 pub mod Keeping
+pub mod Faults
 pub mod Opening
 pub mod Splicing
 pub mod Retiring

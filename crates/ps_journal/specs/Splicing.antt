@@ -1,12 +1,12 @@
 -- Making the next version of a circuit.
 use Rattle.std.specs.Prelude.{ℕ, ◌+◌, ◌-◌, ◌≡◌, ◌≢◌, ◌<◌, ◌≤◌, ◌⊎◌, List, [], ◌∷◌, ◌++◌, length, take, drop, Ok, Err, Some, None}
 use Rattle.seg_tree.specs.Trees.{splice}
-use Rattle.qasm_lex.specs.Places.{IsPlace}
 use Rattle.qasm_expand.specs.declared.fault.FaultName.{FaultName}
 use Rattle.qasm_expand.specs.declared.fault.ReadFault.TheVariants.{Fault}
 use Rattle.qasm_expand.specs.Circuits.{ReadsBlock}
 use Rattle.ps_journal.specs.declared.replies.Reply.{Reply}
 use Rattle.ps_journal.specs.declared.replies.Reply.TheVariants.{Committed, NoCircuit, Stale, Span, Bad, TooLong, Nothing}
+use Rattle.ps_journal.specs.Faults.{IsToldAt}
 use Rattle.ps_journal.specs.State.{Item, Version, Circuit, State, circuit_at, latest_of, version_at, with_circuit, with_next}
 use Rattle.ps_journal.specs.Segments.{with_names, new_names, missing}
 
@@ -40,7 +40,7 @@ pub data Splices (t : State) (name : List ℕ) (base from to : ℕ) (block : Lis
   span : {c : Circuit} {v : Version} → circuit_at t.circuits name ≡ Some c → base ≡ latest_of c → version_at c (latest_of c) ≡ Some v
       → (to < from) ⊎ (length v.items < to) → Splices t name base from to block (Span (length v.items)) t
   bad : {c : Circuit} {v : Version} {fault : FaultName} {at line column : ℕ} → Replaces t name base from to c v
-      → ReadsBlock c.table block (Err (Fault fault at)) → IsPlace block at line column → Splices t name base from to block (Bad fault line column) t
+      → ReadsBlock c.table block (Err (Fault fault at)) → IsToldAt block at line column → Splices t name base from to block (Bad fault line column) t
   too_long : {c : Circuit} {v : Version} {items : List Item} → Replaces t name base from to c v → ReadsBlock c.table block (Ok items)
       → 65536 < length (replaced v.items from to items) → Splices t name base from to block (TooLong (length (replaced v.items from to items))) t
   nothing : {c : Circuit} {v : Version} {items : List Item} → Replaces t name base from to c v → ReadsBlock c.table block (Ok items)

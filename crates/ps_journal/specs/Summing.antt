@@ -52,5 +52,5 @@ pub data Sums (t : State) (i seat : ℕ) : Outcome → Reply → State → Type 
   judged : {pin : Pin} {j : Arc AJudged Global} {proof : Bool} → pin_of t seat ≡ Some pin → Sums t i seat (Judged j proof) OtherRun (unpinned i seat t)
   unsettled : {pin : Pin} {c : Circuit} {v : Version} → pin_of t seat ≡ Some pin → Finds t pin.first c v → is_settled t.published v.tree ≡ false
       → Sums t i seat Done (Unsettled (missing t.published v.tree)) (unpinned i seat t)
-  sums : {pin : Pin} {c : Circuit} {v : Version} {a : Arc Record Global} → pin_of t seat ≡ Some pin → Finds t pin.first c v → is_settled t.published v.tree ≡ true
-      → ComesTo t c v a.value → Sums t i seat Done (SumIs a) (unpinned i seat t)
+  sums : {pin : Pin} {c : Circuit} {v : Version} {a : Record} → pin_of t seat ≡ Some pin → Finds t pin.first c v → is_settled t.published v.tree ≡ true
+      → ComesTo t c v a → Sums t i seat Done (SumIs a) (unpinned i seat t)

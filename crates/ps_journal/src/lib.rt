@@ -4,7 +4,9 @@
 pub mod commands;
 pub mod replies;
 pub mod seats;
+pub mod shared;
 
 pub use commands::{Cmd, Outcome};
 pub use replies::{Entry, Reply};
 pub use seats::{Claim, Pin};
+pub use shared::Shared;

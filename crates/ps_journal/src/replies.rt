@@ -1,9 +1,9 @@
 //! What the service answers.
 
 use crate::commands::Cmd;
+use crate::shared::Shared;
 use ps_reach::{Items, Judged, Record, Task};
 use qasm_expand::FaultName;
-use std::sync::Arc;
 
 /// One turn of the service: who asked what, and what was answered. Entries are numbered from 0.
 pub type Entry = ps_desk::Entry<Cmd, Reply>;
@@ -27,11 +27,11 @@ pub enum Reply {
     /// The seat has pinned the versions.
     Pinned,
     /// The seat has a claim on a segment, which this task computes.
-    Task(Task),
+    Task(Shared<Task>),
     /// Nothing is to be computed for the pinned versions, which come to these records.
     Settled {
-        first: Arc<Record>,
-        second: Option<Arc<Record>>,
+        first: Shared<Record>,
+        second: Option<Shared<Record>>,
     },
     /// Nothing is to be computed for any version.
     Idle,
@@ -41,13 +41,13 @@ pub enum Reply {
     Stands,
     /// The verdict is told, and whether a proof is asked for.
     Answered {
-        judged: Arc<Judged>,
+        judged: Shared<Judged>,
         proof: bool,
     },
     /// The items of the version.
-    Shown(Arc<Items>),
+    Shown(Shared<Items>),
     /// The version comes to this record.
-    SumIs(Arc<Record>),
+    SumIs(Shared<Record>),
     /// This entry opened a circuit of the name.
     NameTaken(u32),
     /// 256 circuits are there.

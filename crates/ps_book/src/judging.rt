@@ -1,0 +1,89 @@
+//! How questions about two versions end.
+
+use crate::filed::is_passed;
+use crate::service::{MOST_TERMS, Service};
+use ps_journal::{Outcome, Pin, Reply};
+use ps_reach::{Judged, Record};
+use ps_script::Place;
+use std::sync::Arc;
+
+impl Service {
+    /// Ends a question about the two versions that a seat has pinned, by entry `number`.
+    pub(crate) fn answer(&mut self, number: u32, seat: u32, outcome: &Outcome) -> Reply {
+        match self.pins[seat as usize] {
+            None => Reply::NoPin,
+            Some(pin) => {
+                let reply = self.answer_reply(&pin, outcome);
+                self.release(number, seat);
+                self.count_answered(&reply);
+                reply
+            }
+        }
+    }
+
+    /// What a question under a pin is answered.
+    fn answer_reply(&self, pin: &Pin, outcome: &Outcome) -> Reply {
+        match outcome {
+            Outcome::Judged { judged, proof } => self.judged_reply(pin, judged, *proof),
+            Outcome::Done => Reply::OtherRun,
+            Outcome::Starved => Reply::Memory,
+            Outcome::Crowded => crowded_reply(pin),
+        }
+    }
+
+    /// What a comparison of two records under a pin is answered.
+    fn judged_reply(&self, pin: &Pin, judged: &Arc<Judged>, proof: bool) -> Reply {
+        if !self.are_pinned(pin, judged) {
+            return Reply::OtherRun;
+        }
+        let total = self.terms + judged.size();
+        if total > MOST_TERMS {
+            return Reply::NoRoom(total);
+        }
+        match Arc::try_clone(judged) {
+            Ok(judged) => Reply::Answered { judged, proof },
+            Err(_) => Reply::Memory,
+        }
+    }
+
+    /// Whether both records belong to the versions that a pin names, each in its place.
+    fn are_pinned(&self, pin: &Pin, judged: &Judged) -> bool {
+        match &pin.second {
+            None => false,
+            Some(second) => {
+                self.belongs(&pin.first, &judged.first) && self.belongs(second, &judged.second)
+            }
+        }
+    }
+
+    /// Whether a record is of all items of a version, which exists; or tells of a limit that was passed at one of its
+    /// segments.
+    fn belongs(&self, place: &Place, record: &Record) -> bool {
+        if record.n != self.qubits_at(place) {
+            return false;
+        }
+        let items = record.items.as_slice();
+        match self.versions.root(place) {
+            None => items.is_empty(),
+            Some(root) => {
+                self.is_run(root, items) || (is_passed(record) && self.has_run(root, items))
+            }
+        }
+    }
+
+    /// The terms of a verdict that was told are kept.
+    fn count_answered(&mut self, reply: &Reply) {
+        match reply {
+            Reply::Answered { judged, .. } => self.terms += judged.size(),
+            _ => (),
+        }
+    }
+}
+
+/// The total that was refused under a pin.
+pub(crate) fn crowded_reply(pin: &Pin) -> Reply {
+    match pin.refused {
+        Some(total) => Reply::NoRoom(total),
+        None => Reply::NotCrowded,
+    }
+}

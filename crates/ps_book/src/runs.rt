@@ -1,0 +1,93 @@
+//! The items of segments.
+
+use crate::equality::same_item;
+use crate::service::Service;
+use ps_prim::Item;
+use ps_reach::Items;
+use ps_script::Place;
+use seg_tree::{Node, Seen};
+use std::alloc::AllocError;
+use std::sync::Arc;
+
+impl Service {
+    /// The number of items of a version, which exists.
+    pub(crate) fn len_at(&self, place: &Place) -> u32 {
+        match self.versions.root(place) {
+            None => 0,
+            Some(root) => self.versions.nodes().len(root),
+        }
+    }
+
+    /// The item of a number.
+    fn item(&self, number: u64) -> &Arc<Item> {
+        &self.items[number as usize]
+    }
+
+    /// Appends the items of a leaf, for which there is room.
+    fn read_leaf(&self, numbers: &[u64], out: &mut Vec<Arc<Item>>) -> Result<(), AllocError> {
+        for number in numbers {
+            out.push(Arc::try_clone(self.item(*number))?)?;
+        }
+        Ok(())
+    }
+
+    /// Appends the items of a segment.
+    fn read(&self, node: Node, out: &mut Vec<Arc<Item>>) -> Result<(), AllocError> {
+        match self.versions.nodes().look(node) {
+            Seen::Leaf(numbers) => self.read_leaf(numbers, out),
+            Seen::Branch(left, right) => {
+                self.read(left, out)?;
+                self.read(right, out)
+            }
+        }
+    }
+
+    /// The items of a segment, to be shared.
+    pub(crate) fn items_of(&self, node: Node) -> Result<Arc<Items>, AllocError> {
+        let len = self.versions.nodes().len(node) as usize;
+        let mut out = Vec::with_capacity(self.alloc(), len)?;
+        self.read(node, &mut out)?;
+        Ok(Arc::new(self.alloc(), Items::from_vec(out))?)
+    }
+
+    /// Whether the items of a leaf are these.
+    fn is_leaf(&self, numbers: &[u64], items: &[Arc<Item>]) -> bool {
+        if numbers.len() != items.len() {
+            return false;
+        }
+        for i in 0..numbers.len() {
+            if !same_item(self.item(numbers[i]), &items[i]) {
+                return false;
+            }
+        }
+        true
+    }
+
+    /// Whether the items of a segment are these.
+    pub(crate) fn is_run(&self, node: Node, items: &[Arc<Item>]) -> bool {
+        match self.versions.nodes().look(node) {
+            Seen::Leaf(numbers) => self.is_leaf(numbers, items),
+            Seen::Branch(left, right) => {
+                let front = self.versions.nodes().len(left) as usize;
+                if front > items.len() {
+                    return false;
+                }
+                self.is_run(left, &items[..front]) && self.is_run(right, &items[front..])
+            }
+        }
+    }
+
+    /// Whether a segment of a node's tree has these items.
+    pub(crate) fn has_run(&self, node: Node, items: &[Arc<Item>]) -> bool {
+        if (self.versions.nodes().len(node) as usize) < items.len() {
+            return false;
+        }
+        if self.is_run(node, items) {
+            return true;
+        }
+        match self.versions.nodes().look(node) {
+            Seen::Leaf(_) => false,
+            Seen::Branch(left, right) => self.has_run(left, items) || self.has_run(right, items),
+        }
+    }
+}
