@@ -1,3 +1,4 @@
+pub mod Plain
 pub mod State
 pub mod Segments
 pub mod Keeping
