@@ -1,6 +1,9 @@
 //! The service with the journal of all that it was asked and answered.
+ghost use Rattle.std.specs.Prelude.{◌-◌, length};
+ghost use Rattle.ps_journal.specs.History.{IsLegal, nothing_is_legal};
 
 use crate::service::Service;
+use crate::told::Told;
 use ps_desk::Object;
 use ps_journal::{Cmd, Entry, Reply};
 use ps_script::{Name, Place};
@@ -44,26 +47,28 @@ impl Book {
 
 impl Service {
     /// Does one command of a seat, as entry `number`.
-    fn serve(&mut self, number: u32, seat: u32, cmd: &Cmd) -> Reply {
+    fn serve(&mut self, number: u32, seat: u32, cmd: &Cmd) -> Told {
         match cmd {
-            Cmd::Open { name, text } => self.open(number, *name, text),
+            Cmd::Open { name, text } => Told::plain(self.open(number, *name, text)),
             Cmd::Splice {
                 name,
                 base,
                 from,
                 to,
                 block,
-            } => self.splice(*name, *base, *from, *to, block),
-            Cmd::Retire { name, version } => self.retire(
-                number,
-                &Place {
-                    name: *name,
-                    version: *version,
-                },
+            } => Told::plain(self.splice(*name, *base, *from, *to, block)),
+            Cmd::Retire { name, version } => Told::plain(
+                self.retire(
+                    number,
+                    &Place {
+                        name: *name,
+                        version: *version,
+                    },
+                ),
             ),
-            Cmd::Pin { first, second } => self.pin(number, seat, *first, *second),
+            Cmd::Pin { first, second } => Told::plain(self.pin(number, seat, *first, *second)),
             Cmd::Next { pinned } => self.next(number, seat, *pinned),
-            Cmd::Publish { kept } => self.publish(number, seat, kept),
+            Cmd::Publish { kept } => Told::plain(self.publish(number, seat, kept)),
             Cmd::Answer { outcome } => self.answer(number, seat, outcome),
             Cmd::Read { place } => self.read(place),
             Cmd::Sum { outcome } => self.sum(number, seat, outcome),
@@ -73,12 +78,25 @@ impl Service {
 
 impl Object for Book {
     type Cmd = Cmd;
+
     type Reply = Reply;
+
+    ghost journal = { λ b. b.journal.items };
+
+    ghost spare = { λ b. 262144 - length b.journal.items };
+
+    ghost legal = { IsLegal };
 
     fn apply(&mut self, seat: u32, cmd: Cmd) -> Reply {
         let number = self.journal.len() as u32;
-        let reply = self.service.serve(number, seat, &cmd);
-        self.journal.push_reserved(Entry { seat, cmd, reply });
+        let Told { reply, copy } = self.service.serve(number, seat, &cmd);
+        self.journal.push_reserved(Entry {
+            seat,
+            cmd,
+            reply: copy,
+        });
         reply
     }
+
+    ghost empty_is_legal = { nothing_is_legal };
 }

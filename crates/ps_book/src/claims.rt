@@ -1,4 +1,5 @@
 //! Which segments the seats are computing.
+ghost use Rattle.ps_book.specs.Counts.{claims_of};
 
 use ps_journal::Claim;
 use ps_script::Place;
@@ -45,6 +46,8 @@ fn is_of(claim: &Option<Claim>, node: Node) -> bool {
 }
 
 impl Weights for Claims {
+    ghost weight = { claims_of };
+
     /// How many claims name a node.
     fn weight(&self, node: Node) -> u32 {
         let mut count = 0;

@@ -1,4 +1,6 @@
 //! Records as they are filed at segments.
+ghost use Rattle.std.specs.Prelude.{◌≡◌};
+ghost use Rattle.ps_journal.specs.Segments.{is_passed};
 
 use ps_reach::{Body, Record};
 use ps_versions::Kept;
@@ -11,13 +13,17 @@ pub struct Filed {
 }
 
 impl Kept for Filed {
+    ghost passed = { λ f. is_passed f.record.value };
+
     fn is_passed(&self) -> bool {
         is_passed(&self.record)
     }
 }
 
 /// Whether a record tells that a limit was passed.
-pub(crate) fn is_passed(record: &Record) -> bool {
+pub(crate) fn is_passed(record: &Record) -> bool
+    ensures { result ≡ is_passed record.now }
+{
     match &record.body {
         Body::Sum(_) => false,
         Body::Passed(_) => true,

@@ -2,47 +2,49 @@
 
 use crate::filed::is_passed;
 use crate::service::{MOST_TERMS, Service};
-use ps_journal::{Outcome, Pin, Reply};
+use crate::told::Told;
+use ps_journal::{Outcome, Pin, Reply, Shared};
 use ps_reach::{Judged, Record};
 use ps_script::Place;
+use std::alloc::AllocError;
 use std::sync::Arc;
 
 impl Service {
     /// Ends a question about the two versions that a seat has pinned, by entry `number`.
-    pub(crate) fn answer(&mut self, number: u32, seat: u32, outcome: &Outcome) -> Reply {
+    pub(crate) fn answer(&mut self, number: u32, seat: u32, outcome: &Outcome) -> Told {
         match self.pins[seat as usize] {
-            None => Reply::NoPin,
+            None => Told::plain(Reply::NoPin),
             Some(pin) => {
-                let reply = self.answer_reply(&pin, outcome);
+                let told = self.answer_told(&pin, outcome);
                 self.release(number, seat);
-                self.count_answered(&reply);
-                reply
+                self.count_answered(&told.reply);
+                told
             }
         }
     }
 
     /// What a question under a pin is answered.
-    fn answer_reply(&self, pin: &Pin, outcome: &Outcome) -> Reply {
+    fn answer_told(&self, pin: &Pin, outcome: &Outcome) -> Told {
         match outcome {
-            Outcome::Judged { judged, proof } => self.judged_reply(pin, judged, *proof),
-            Outcome::Done => Reply::OtherRun,
-            Outcome::Starved => Reply::Memory,
-            Outcome::Crowded => crowded_reply(pin),
+            Outcome::Judged { judged, proof } => self.judged_told(pin, judged, *proof),
+            Outcome::Done => Told::plain(Reply::OtherRun),
+            Outcome::Starved => Told::plain(Reply::Memory),
+            Outcome::Crowded => Told::plain(crowded_reply(pin)),
         }
     }
 
     /// What a comparison of two records under a pin is answered.
-    fn judged_reply(&self, pin: &Pin, judged: &Arc<Judged>, proof: bool) -> Reply {
+    fn judged_told(&self, pin: &Pin, judged: &Arc<Judged>, proof: bool) -> Told {
         if !self.are_pinned(pin, judged) {
-            return Reply::OtherRun;
+            return Told::plain(Reply::OtherRun);
         }
         let total = self.terms + judged.size();
         if total > MOST_TERMS {
-            return Reply::NoRoom(total);
+            return Told::plain(Reply::NoRoom(total));
         }
-        match Arc::try_clone(judged) {
-            Ok(judged) => Reply::Answered { judged, proof },
-            Err(_) => Reply::Memory,
+        match verdict_told(judged, proof) {
+            Ok(told) => told,
+            Err(_) => Told::plain(Reply::Memory),
         }
     }
 
@@ -74,10 +76,16 @@ impl Service {
     /// The terms of a verdict that was told are kept.
     fn count_answered(&mut self, reply: &Reply) {
         match reply {
-            Reply::Answered { judged, .. } => self.terms += judged.size(),
+            Reply::Answered { judged, .. } => self.terms += judged.get().size(),
             _ => (),
         }
     }
+}
+
+/// A verdict as it is told.
+fn verdict_told(judged: &Arc<Judged>, proof: bool) -> Result<Told, AllocError> {
+    let judged = Shared::of(Arc::try_clone(judged)?);
+    Told::shared(Reply::Answered { judged, proof })
 }
 
 /// The total that was refused under a pin.

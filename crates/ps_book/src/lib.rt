@@ -16,6 +16,7 @@ pub mod showing;
 pub mod splicing;
 pub mod summing;
 pub mod tasks;
+mod told;
 
 pub use book::Book;
 

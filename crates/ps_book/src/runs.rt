@@ -24,7 +24,7 @@ impl Service {
     }
 
     /// Appends the items of a leaf, for which there is room.
-    fn read_leaf(&self, numbers: &[u64], out: &mut Vec<Arc<Item>>) -> Result<(), AllocError> {
+    fn append_leaf(&self, numbers: &[u64], out: &mut Vec<Arc<Item>>) -> Result<(), AllocError> {
         for number in numbers {
             out.push(Arc::try_clone(self.item(*number))?)?;
         }
@@ -32,12 +32,12 @@ impl Service {
     }
 
     /// Appends the items of a segment.
-    fn read(&self, node: Node, out: &mut Vec<Arc<Item>>) -> Result<(), AllocError> {
+    fn append(&self, node: Node, out: &mut Vec<Arc<Item>>) -> Result<(), AllocError> {
         match self.versions.nodes().look(node) {
-            Seen::Leaf(numbers) => self.read_leaf(numbers, out),
+            Seen::Leaf(numbers) => self.append_leaf(numbers, out),
             Seen::Branch(left, right) => {
-                self.read(left, out)?;
-                self.read(right, out)
+                self.append(left, out)?;
+                self.append(right, out)
             }
         }
     }
@@ -46,7 +46,7 @@ impl Service {
     pub(crate) fn items_of(&self, node: Node) -> Result<Arc<Items>, AllocError> {
         let len = self.versions.nodes().len(node) as usize;
         let mut out = Vec::with_capacity(self.alloc(), len)?;
-        self.read(node, &mut out)?;
+        self.append(node, &mut out)?;
         Ok(Arc::new(self.alloc(), Items::from_vec(out))?)
     }
 

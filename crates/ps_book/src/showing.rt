@@ -1,7 +1,8 @@
 //! How the items of versions are shown.
 
 use crate::service::{MOST_TERMS, Service};
-use ps_journal::Reply;
+use crate::told::Told;
+use ps_journal::{Reply, Shared};
 use ps_reach::Items;
 use ps_script::Place;
 use std::alloc::AllocError;
@@ -9,26 +10,32 @@ use std::sync::Arc;
 
 impl Service {
     /// Shows the items of a live version.
-    pub(crate) fn read(&mut self, place: &Place) -> Reply {
+    pub(crate) fn read(&mut self, place: &Place) -> Told {
         match self.live_at(place) {
-            Err(reply) => reply,
+            Err(reply) => Told::plain(reply),
             Ok(_) => self.show(place),
         }
     }
 
     /// The same of a version that is live.
-    fn show(&mut self, place: &Place) -> Reply {
+    fn show(&mut self, place: &Place) -> Told {
         let total = self.terms + u64::from(self.len_at(place));
         if total > MOST_TERMS {
-            return Reply::NoRoom(total);
+            return Told::plain(Reply::NoRoom(total));
         }
-        match self.items_at(place) {
-            Err(_) => Reply::Memory,
-            Ok(items) => {
+        match self.items_told(place) {
+            Err(_) => Told::plain(Reply::Memory),
+            Ok(told) => {
                 self.terms = total;
-                Reply::Shown(items)
+                told
             }
         }
+    }
+
+    /// The items of a version, which exists, as they are shown.
+    fn items_told(&self, place: &Place) -> Result<Told, AllocError> {
+        let items = self.items_at(place)?;
+        Told::shared(Reply::Shown(Shared::of(items)))
     }
 
     /// The items of a version, which exists, to be shared.

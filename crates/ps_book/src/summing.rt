@@ -2,8 +2,9 @@
 
 use crate::judging::crowded_reply;
 use crate::service::Service;
+use crate::told::Told;
 use ps_join::identity;
-use ps_journal::{Outcome, Pin, Reply};
+use ps_journal::{Outcome, Pin, Reply, Shared};
 use ps_reach::{Body, Items, Moves, Record};
 use ps_rules::Move;
 use ps_script::Place;
@@ -13,36 +14,42 @@ use std::sync::Arc;
 
 impl Service {
     /// Ends a question about the first version that a seat has pinned, by entry `number`.
-    pub(crate) fn sum(&mut self, number: u32, seat: u32, outcome: &Outcome) -> Reply {
+    pub(crate) fn sum(&mut self, number: u32, seat: u32, outcome: &Outcome) -> Told {
         match self.pins[seat as usize] {
-            None => Reply::NoPin,
+            None => Told::plain(Reply::NoPin),
             Some(pin) => {
-                let reply = self.sum_reply(&pin, outcome);
+                let told = self.sum_told(&pin, outcome);
                 self.release(number, seat);
-                reply
+                told
             }
         }
     }
 
     /// What a question under a pin is answered.
-    fn sum_reply(&self, pin: &Pin, outcome: &Outcome) -> Reply {
+    fn sum_told(&self, pin: &Pin, outcome: &Outcome) -> Told {
         match outcome {
-            Outcome::Judged { .. } => Reply::OtherRun,
-            Outcome::Done => self.done_reply(&pin.first),
-            Outcome::Starved => Reply::Memory,
-            Outcome::Crowded => crowded_reply(pin),
+            Outcome::Judged { .. } => Told::plain(Reply::OtherRun),
+            Outcome::Done => self.done_told(&pin.first),
+            Outcome::Starved => Told::plain(Reply::Memory),
+            Outcome::Crowded => Told::plain(crowded_reply(pin)),
         }
     }
 
     /// What a version comes to, if it is settled.
-    fn done_reply(&self, place: &Place) -> Reply {
+    fn done_told(&self, place: &Place) -> Told {
         if !self.versions.settled(place) {
-            return Reply::Unsettled(self.missing_of(place));
+            return Told::plain(Reply::Unsettled(self.missing_of(place)));
         }
-        match self.whole_at(place) {
-            Ok(record) => Reply::SumIs(record),
-            Err(_) => Reply::Memory,
+        match self.record_told(place) {
+            Ok(told) => told,
+            Err(_) => Told::plain(Reply::Memory),
         }
+    }
+
+    /// What a version, which is settled, comes to.
+    fn record_told(&self, place: &Place) -> Result<Told, AllocError> {
+        let record = self.whole_at(place)?;
+        Told::shared(Reply::SumIs(Shared::of(record)))
     }
 
     /// The record that a version, which is settled, comes to.

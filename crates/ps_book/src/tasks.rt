@@ -1,7 +1,8 @@
 //! Which segment a seat computes next.
 
 use crate::service::Service;
-use ps_journal::{Claim, Pin, Reply};
+use crate::told::Told;
+use ps_journal::{Claim, Pin, Reply, Shared};
 use ps_reach::{Record, Task, Work};
 use ps_script::Place;
 use ps_versions::Ready;
@@ -11,22 +12,22 @@ use std::sync::Arc;
 
 impl Service {
     /// Gives a segment to a seat, as entry `number`, or tells that none is left. The old claim ends first.
-    pub(crate) fn next(&mut self, number: u32, seat: u32, pinned: bool) -> Reply {
+    pub(crate) fn next(&mut self, number: u32, seat: u32, pinned: bool) -> Told {
         self.unclaim(seat);
         if pinned {
             self.next_pinned(number, seat)
         } else {
             match self.versions.lightest(&self.claims) {
-                None => Reply::Idle,
+                None => Told::plain(Reply::Idle),
                 Some(ready) => self.give(number, seat, ready),
             }
         }
     }
 
     /// The same of the versions that the seat has pinned.
-    fn next_pinned(&mut self, number: u32, seat: u32) -> Reply {
+    fn next_pinned(&mut self, number: u32, seat: u32) -> Told {
         match self.pins[seat as usize] {
-            None => Reply::NoPin,
+            None => Told::plain(Reply::NoPin),
             Some(pin) => match self.lightest_of(&pin) {
                 None => self.settled_reply(&pin),
                 Some(ready) => self.give(number, seat, ready),
@@ -55,29 +56,30 @@ impl Service {
     }
 
     /// Gives a ready segment to a seat.
-    fn give(&mut self, number: u32, seat: u32, ready: Ready) -> Reply {
-        match self.task(number, seat, &ready) {
-            Err(_) => Reply::Memory,
-            Ok(task) => {
+    fn give(&mut self, number: u32, seat: u32, ready: Ready) -> Told {
+        match self.task_told(number, seat, &ready) {
+            Err(_) => Told::plain(Reply::Memory),
+            Ok(told) => {
                 self.claims.seats[seat as usize] = Some(Claim {
                     place: ready.place,
                     node: ready.node,
                     entry: number,
                 });
-                Reply::Task(task)
+                told
             }
         }
     }
 
     /// What computes a ready segment.
-    fn task(&self, number: u32, seat: u32, ready: &Ready) -> Result<Task, AllocError> {
+    fn task_told(&self, number: u32, seat: u32, ready: &Ready) -> Result<Told, AllocError> {
         let work = self.work(ready.node)?;
-        Ok(Task {
+        let task = Task {
             seat,
             claim: number,
             n: self.qubits_at(&ready.place),
             work,
-        })
+        };
+        Told::shared(Reply::Task(Shared::new(self.alloc(), task)?))
     }
 
     /// The number of qubits of a circuit, which is there.
@@ -109,21 +111,27 @@ impl Service {
     }
 
     /// That all versions of a pin are settled, and what they come to.
-    fn settled_reply(&self, pin: &Pin) -> Reply {
-        match self.both_records(pin) {
-            Ok((first, second)) => Reply::Settled { first, second },
-            Err(_) => Reply::Memory,
+    fn settled_reply(&self, pin: &Pin) -> Told {
+        match self.both_told(pin) {
+            Ok(told) => told,
+            Err(_) => Told::plain(Reply::Memory),
         }
     }
 
     /// What the versions of a pin, which are settled, come to.
-    fn both_records(&self, pin: &Pin) -> Result<(Arc<Record>, Option<Arc<Record>>), AllocError> {
-        let first = self.whole_at(&pin.first)?;
-        match &pin.second {
-            None => Ok((first, None)),
-            Some(second) => {
-                let second = self.whole_at(second)?;
-                Ok((first, Some(second)))
+    fn both_told(&self, pin: &Pin) -> Result<Told, AllocError> {
+        let first = Shared::of(self.whole_at(&pin.first)?);
+        let second = self.whole_maybe(&pin.second)?;
+        Told::shared(Reply::Settled { first, second })
+    }
+
+    /// What a version, which is settled, comes to, where there is one.
+    fn whole_maybe(&self, place: &Option<Place>) -> Result<Option<Shared<Record>>, AllocError> {
+        match place {
+            None => Ok(None),
+            Some(place) => {
+                let record = self.whole_at(place)?;
+                Ok(Some(Shared::of(record)))
             }
         }
     }

@@ -20,6 +20,9 @@ pub data LeadsTo : List Entry → State → Type 0 where
 abbrev pub IsLegal : List Entry → Type 0
 IsLegal es = ∥ ((t : State) × LeadsTo es t) ∥₁
 
+pub nothing_is_legal : IsLegal []
+nothing_is_legal = ∣ (empty, start) ∣₁
+
 -- the entries of one seat, in order
 abbrev pub own_entries : ℕ → List Entry → List Entry
 own_entries seat es = filter (λ e. eqb e.seat seat) es

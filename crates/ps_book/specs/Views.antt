@@ -1,0 +1,1 @@
+-- The state of the service that the fields stand for.
