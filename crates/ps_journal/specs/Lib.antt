@@ -14,3 +14,4 @@ pub mod Summing
 pub mod Showing
 pub mod Step
 pub mod History
+pub mod Mapped
