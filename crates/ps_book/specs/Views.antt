@@ -1,1 +1,0 @@
--- The state of the service that the fields stand for.
