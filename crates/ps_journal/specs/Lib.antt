@@ -1,0 +1,17 @@
+pub mod Plain
+pub mod State
+pub mod Segments
+pub mod Keeping
+pub mod Faults
+pub mod Opening
+pub mod Splicing
+pub mod Retiring
+pub mod Pinning
+pub mod Claiming
+pub mod Publishing
+pub mod Judging
+pub mod Summing
+pub mod Showing
+pub mod Step
+pub mod History
+pub mod Mapped
