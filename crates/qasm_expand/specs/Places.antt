@@ -4,13 +4,13 @@ use Rattle.qasm_expand.specs.declared.fault.FaultName.TheVariants.{NoQubits}
 use Rattle.qasm_expand.specs.declared.fault.ReadFault.{ReadFault}
 use Rattle.qasm_expand.specs.declared.fault.ReadFault.TheVariants.{Fault, Memory}
 
--- at a byte or at the end; what stands there is more than that no qubit is declared
+-- the fault is at a byte of the text or at its end, and it is not NoQubits
 abbrev pub IsInside : List ℕ → ReadFault → Type 0
 IsInside text (Fault NoQubits at) = ⊥
 IsInside text (Fault name at) = at ≤ length text
 IsInside text Memory = Unit {0}
 
--- the same of a whole text, at whose end it is told that no qubit is declared
+-- the same of a whole text, where NoQubits is told at the end
 abbrev pub IsPlaced : List ℕ → ReadFault → Type 0
 IsPlaced text (Fault NoQubits at) = at ≡ length text
 IsPlaced text (Fault name at) = at ≤ length text

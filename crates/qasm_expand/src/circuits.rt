@@ -61,7 +61,8 @@ fn ended(alloc: Global, text: &[u8], state: State) -> Result<Circuit, ReadFault>
 /// The circuit of a whole text of at most 16,777,216 bytes, or its first fault.
 ///
 /// All faults of tokens come before those of the grammar, and these before those of the statements,
-/// which are taken in order. `NoQubits` is at the end of the text. `Memory` can come in place of any answer.
+/// which are taken in order. `NoQubits` is at the end of the text, and every other fault within it. The library has no
+/// fault, so none is told of it. `Memory` can come in place of any answer.
 pub fn circuit(alloc: Global, text: &[u8]) -> Result<Circuit, ReadFault>
     requires { length text.now ≤ 16777216 }
     // The answer is the circuit of the text, or its first fault by offset.
