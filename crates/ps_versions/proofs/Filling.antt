@@ -86,11 +86,11 @@ module _ {R : Type 0} (passed : R → Bool) where
   pub filled_grown : (nodes more : List (Tree ℕ)) (old new : List (Option (ℕ × R))) (m : ℕ) → Keeps nodes more → new ≡ old ++ replicate m None → length old ≡ length nodes → IsFilled passed nodes old → IsFilled passed more new
   filled_grown nodes more old new m k e len f =
       λ i h.
-        let same : record_at new i ≡ record_at old i = ap (λ ks. record_at ks i) e ∙ read_more old m i in
-        let was : is_some (record_at old i) ≡ true = ap is_some (sym same) ∙ h in
-        let there : i < length nodes = omega (arith, there_kept old i was, len) in
-        let stays : Stays old new = record { each = λ j r p. ap (λ ks. record_at ks j) e ∙ read_more old m j ∙ p } in
-        ap (λ t. list_all (has_sum new passed) (below t)) (k.same i there) ∙ all_stay old new stays (below (tree nodes i)) (f i was)
+      let same : record_at new i ≡ record_at old i = ap (λ ks. record_at ks i) e ∙ read_more old m i in
+      let was : is_some (record_at old i) ≡ true = ap is_some (sym same) ∙ h in
+      let there : i < length nodes = omega (arith, there_kept old i was, len) in
+      let stays : Stays old new = record { each = λ j r p. ap (λ ks. record_at ks j) e ∙ read_more old m j ∙ p } in
+      ap (λ t. list_all (has_sum new passed) (below t)) (k.same i there) ∙ all_stay old new stays (below (tree nodes i)) (f i was)
 
   -- with one more record, below which all have sums
   pub filled_stored : (nodes : List (Tree ℕ)) (old : List (Option (ℕ × R))) (k : ℕ) (x : ℕ × R) → record_at old k ≡ None → below_have_sums old passed (tree nodes k) ≡ true → IsFilled passed nodes old → IsFilled passed nodes (slice_set old k (Some x))

@@ -66,8 +66,11 @@ used_where_named k (leaf n xs) e = omega (arith, or_either (has_name k n) false 
 used_where_named k (branch n l r) e =
     let p : Tree ℕ → Bool = λ s. has_name k (name_of s) in
     let apart : (list_any p (segments l) || list_any p (segments r ++ branch n l r ∷ [])) ≡ true = sym (list_any-append p (segments l) (segments r ++ branch n l r ∷ [])) ∙ e in
-    omega (arith, or_either (list_any p (segments l)) (list_any p (segments r ++ branch n l r ∷ [])) (uses k l) (uses k r + is_name k n) apart (used_where_named k l)
-    (λ q. or_either (list_any p (segments r)) (list_any p (branch n l r ∷ [])) (uses k r) (is_name k n) (sym (list_any-append p (segments r) (branch n l r ∷ [])) ∙ q) (used_where_named k r) (λ s. has_of k n (last (has_name k n) s))))
+    omega (
+      arith,
+      or_either (list_any p (segments l)) (list_any p (segments r ++ branch n l r ∷ [])) (uses k l) (uses k r + is_name k n) apart (used_where_named k l)
+          (λ q. or_either (list_any p (segments r)) (list_any p (branch n l r ∷ [])) (uses k r) (is_name k n) (sym (list_any-append p (segments r) (branch n l r ∷ [])) ∙ q) (used_where_named k r) (λ s. has_of k n (last (has_name k n) s))),
+    )
   where
     last : (b : Bool) → (b || false) ≡ true → b ≡ true
     last true e = refl

@@ -4,7 +4,6 @@ ghost use Rattle.std.specs.List.{list_all};
 ghost use Rattle.seg_tree.specs.Table.{tree, root_tree, IsRoot};
 ghost use Rattle.ps_versions.specs.Held.{Circuit};
 ghost use Rattle.ps_versions.specs.Lookup.{version_at};
-
 ghost use Rattle.ps_versions.specs.Views.{version_of};
 ghost use Rattle.ps_versions.specs.Questions.{segments, is_ready, settled_in, is_settled};
 ghost use Rattle.ps_versions.specs.declared.data.Ready.{Ready};

@@ -125,7 +125,11 @@ impl<R: Kept> Versions<R> {
         ensures { result ≡ first_named (has_passed self.now.kept R.passed) (segments (tree self.now.nodes node)) }
     {
         if !self.lacks(node) {
-            return if self.has_passed(node) { Some(node) } else { None };
+            return if self.has_passed(node) {
+                Some(node)
+            } else {
+                None
+            };
         }
         match self.look(node) {
             Seen::Leaf(_) => None,

@@ -9,8 +9,8 @@ ghost use Rattle.ps_versions.specs.Spliced.{latest_of, latest_root, latest_tree,
 ghost use Rattle.ps_versions.specs.Gains.{Gains, HasRoom, HasCount};
 
 use crate::data::{Course, Edition, Stored};
-use crate::opening::fill;
 use crate::kept::Kept;
+use crate::opening::fill;
 use crate::versions::Versions;
 use ps_script::Name;
 use seg_tree::Node;

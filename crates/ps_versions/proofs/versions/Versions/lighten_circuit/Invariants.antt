@@ -9,5 +9,5 @@ abbrev pub invariant-loop-number : goal.invariant-loop-number
 invariant-loop-number g l =
     (c : Circuit) → slice_get l.self.circuits l.index ≡ Some c → record {
       value : l.best ≡ lighter_of (g.W.Weights.weight l.weights) l.fn.best (lightest (g.W.Weights.weight l.weights) (open_from g.R.Kept.passed l.self c.name 1 (take l.number c.versions)));
-      none : is_none l.best ≡ (is_none l.fn.best && list_all (is_done g.R.Kept.passed l.self) (take l.number c.versions))
+      none : is_none l.best ≡ (is_none l.fn.best && list_all (is_done g.R.Kept.passed l.self) (take l.number c.versions));
     }

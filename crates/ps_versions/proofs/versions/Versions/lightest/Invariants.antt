@@ -8,5 +8,5 @@ use Rattle.ps_versions.proofs.versions.Versions.lightest.Given as goal
 abbrev pub invariant-loop-index : goal.invariant-loop-index
 invariant-loop-index g l = record {
   value : l.best ≡ lightest (g.W.Weights.weight l.weights) (open_of g.R.Kept.passed l.self (take l.index l.self.circuits));
-  none : is_none l.best ≡ list_all (λ (c : Circuit). list_all (is_done g.R.Kept.passed l.self) c.versions) (take l.index l.self.circuits)
+  none : is_none l.best ≡ list_all (λ (c : Circuit). list_all (is_done g.R.Kept.passed l.self) c.versions) (take l.index l.self.circuits);
 }
