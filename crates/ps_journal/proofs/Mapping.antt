@@ -182,6 +182,6 @@ module _ {A B : Type 0} (f : A → B) where
       ap₂ (λ a b. a ++ (b ++ branch name (mapped f l) (mapped f r) ∷ [])) (segments-mapped l) (segments-mapped r)
       ∙ ap (λ z. map (mapped f) (segments l) ++ z) (sym (map-appended (segments r) (branch name l r ∷ [])))
       ∙ sym (map-appended (segments l) (segments r ++ branch name l r ∷ [])) where
-    map-appended : (xs ys : List (Tree A)) → map (mapped f) (xs ++ ys) ≡ map (mapped f) xs ++ map (mapped f) ys
-    map-appended [] ys = refl
-    map-appended (x ∷ xs) ys = ap (λ zs. mapped f x ∷ zs) (map-appended xs ys)
+        map-appended : (xs ys : List (Tree A)) → map (mapped f) (xs ++ ys) ≡ map (mapped f) xs ++ map (mapped f) ys
+        map-appended [] ys = refl
+        map-appended (x ∷ xs) ys = ap (λ zs. mapped f x ∷ zs) (map-appended xs ys)
