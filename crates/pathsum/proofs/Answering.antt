@@ -1,5 +1,5 @@
 -- There is one answer to an input.
-use Rattle.std.proofs.Common.{◌≡◌, ◌≢◌, ℕ, refl, ap, sym, ◌∙◌, subst, arith, ◌+◌, ◌<◌, ◌≤◌, List, [], ◌∷◌, ◌++◌, length, map, codes, Option, Some, None, Result, Ok, Err}
+use Rattle.std.proofs.Common.{◌≡◌, ◌≢◌, ℕ, refl, ap, sym, ◌∙◌, subst, arith, ◌+◌, ◌<◌, ◌≤◌, List, ◌++◌, length, map, codes, Option, Some, None, Result, Ok, Err}
 use Rattle.ps_prim.specs.declared.prims.Primitive.{Primitive as Prim}
 use Rattle.ps_sum.specs.declared.sums.PathSum.{PathSum}
 use Rattle.ps_sum.specs.declared.faults.Passed.{Passed as Limit}
@@ -11,7 +11,7 @@ use Rattle.ps_reach.specs.declared.mode.Mode.TheVariants.{Exact, Phase}
 use Rattle.ps_reach.specs.Overruns.{Overrun}
 use Rattle.ps_reach.specs.Runs.{run_of}
 use Rattle.ps_reach.specs.Fillings.{Outcome, Fills, kept, passed}
-use Rattle.ps_reach.specs.Findings.{Finding, yes, no, stuck, limit, Compares, first_limit}
+use Rattle.ps_reach.specs.Findings.{Finding, yes, limit, Compares, first_limit}
 use Rattle.ps_reach.proofs.FillsOnce.{fills_only}
 use Rattle.ps_reach.proofs.Justifying.{compares_only}
 use Rattle.ps_normal.specs.Comparing.{Decides, PassesFirst, Settles, early, both as compared}

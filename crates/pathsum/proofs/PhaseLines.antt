@@ -1,5 +1,5 @@
 -- The line that tells a phase.
-use Rattle.std.proofs.Common.{◌≡◌, ℕ, zero, suc, ◌-◌, ◌/◌, ◌^◌, refl, ap, sym, ◌∙◌, List, [], ◌∷◌, ◌++◌, codes, decimal, append_assoc}
+use Rattle.std.proofs.Common.{◌≡◌, ℕ, zero, suc, ◌-◌, ◌/◌, ◌^◌, refl, ap, sym, ◌∙◌, List, [], ◌++◌, codes, decimal, append_assoc}
 use Rattle.ps_sum.specs.Texts.{fraction_text}
 use Rattle.ps_sum.proofs.Counting.{Power}
 use Rattle.ps_sum.proofs.Texting.{fraction_is}

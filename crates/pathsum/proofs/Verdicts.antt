@@ -18,15 +18,14 @@ use Rattle.ps_reach.specs.declared.verdict.Verdict.{Verdict}
 use Rattle.ps_reach.specs.declared.verdict.Verdict.TheVariants as verdict
 use Rattle.ps_reach.specs.declared.mode.Mode.{Mode}
 use Rattle.ps_reach.specs.declared.mode.Mode.TheVariants.{Exact}
-use Rattle.ps_reach.specs.Runs.{prims_of, run_of}
+use Rattle.ps_reach.specs.Runs.{run_of}
 use Rattle.ps_reach.specs.Fillings.{Outcome, Fills, kept}
 use Rattle.ps_reach.specs.Findings.{Finding, yes, limit, Compares, first_limit, second_limit, sums, IsJustified}
-use Rattle.ps_reach.specs.Overruns.{Overrun}
 use Rattle.ps_reach.specs.Parts.{overrun_of, outcome_by}
 use Rattle.ps_reach.specs.Judging.{finding_of, outcome_of}
 use Rattle.ps_reach.proofs.Denoting.{within_both}
 use Rattle.ps_reach.proofs.FillsOnce.{fills_only}
-use Rattle.ps_normal.specs.Comparing.{Decides, PassesFirst, IsBoth, early, both}
+use Rattle.ps_normal.specs.Comparing.{Decides, PassesFirst, early, both}
 use Rattle.ps_normal.specs.Deriving.{derivation_of, Derives}
 use Rattle.ps_normal.specs.Fillings.{CanRun, IsRecordOf}
 use Rattle.ps_steps.specs.declared.derivation.Derivation.{Derivation}

@@ -1,4 +1,4 @@
-use Rattle.std.proofs.Common.{◌^◌, ◌/◌, ap, sym, ◌∙◌, ℕ, Vec, Global}
+use Rattle.std.proofs.Common.{◌^◌, ◌/◌, ap, ◌∙◌, ℕ, Vec, Global}
 use Rattle.ps_sum.proofs.Texting.{below_is}
 use Rattle.pathsum.proofs.PhaseLines.{fraction_line}
 use Rattle.pathsum.proofs.answer.phase_line.Goals as goal
