@@ -1,8 +1,7 @@
 -- Lines, and blocks of lines.
-use Rattle.std.proofs.Common.{◌≡◌, ◌≢◌, ℕ, zero, suc, ◌+◌, ◌-◌, ◌<◌, ◌≤◌, ◌==◌, Bool, true, false, cond, List, [], ◌∷◌, ◌++◌, length, take, drop, codes, refl, sym, ap, ◌∙◌, subst, arith, append_assoc, append-nil, length-append, take-append-drop, length-drop}
+use Rattle.std.proofs.Common.{◌≡◌, ◌≢◌, ℕ, ◌+◌, ◌-◌, ◌<◌, ◌≤◌, ◌==◌, List, [], ◌∷◌, ◌++◌, length, take, drop, codes, refl, sym, ap, ◌∙◌, subst, arith, append_assoc, append-nil, length-append, take-append-drop}
 use Rattle.std.specs.Prelude.{if◌then◌else◌, Some, None}
-use Rattle.std.specs.List.{before_first, after_first, position, position_or_len}
-use Rattle.std.proofs.lemmas.List.{append_cancel_left}
+use Rattle.std.specs.List.{before_first, position, position_or_len}
 use Rattle.std.proofs.Math.Seq.{take-append_seam}
 use Rattle.ps_script.proofs.WordLemmas.{position_some, position_none, not_below, behind_place, drop_over}
 use Rattle.ps_script.specs.Lines.{is_feed, without_return, line_of, rest_of, HasBlock, ends_here, ends_later, HasNoBlock, no_line, no_end}

@@ -1,11 +1,11 @@
 -- Parts of command lines, from the words of their bytes.
-use Rattle.std.proofs.Common.{◌≡◌, ◌≢◌, ℕ, ◌+◌, ◌*◌, ◌^◌, ◌<◌, true, false, List, [], ◌∷◌, codes, decimal, refl, sym, ap, ◌∙◌, subst, arith}
+use Rattle.std.proofs.Common.{◌≡◌, ◌≢◌, ℕ, ◌+◌, ◌*◌, ◌^◌, ◌<◌, true, false, List, [], ◌∷◌, codes, decimal, refl, sym, ap, ◌∙◌, arith}
 use Rattle.ps_script.specs.declared.name.Place.{Place}
 use Rattle.ps_script.specs.declared.order.Order.{Order}
 use Rattle.ps_script.specs.declared.order.Order.TheVariants.{Open, Splice, Retire, Ask, AskPhase, Prove, Sum, Show}
 use Rattle.ps_script.specs.Names.{is_name}
 use Rattle.ps_script.specs.Words.{words, SpellsNumber, NoNumber}
-use Rattle.ps_script.specs.Orders.{place_words, pair_words, IsPlace, IsOrder, verb_of, argument_words, Spells, SpellsNone}
+use Rattle.ps_script.specs.Orders.{place_words, pair_words, IsPlace, verb_of, argument_words, Spells, SpellsNone}
 use Rattle.ps_script.specs.Arguments.{SpellsPlace, NoPlace, SpellsPair, NoPair, SpellsPhase, NoPhase, SpellsSpan, NoSpan, HasArguments, HasNone, SpellsOrder, NoOrder}
 use Rattle.ps_script.proofs.WordLemmas.{alone, name_word, number_word, number_alone}
 

@@ -1,15 +1,13 @@
 -- What bytes are read as is one thing, and what is read first leads on.
-use Rattle.std.proofs.Common.{◌≡◌, ◌≢◌, ℕ, ◌+◌, ◌^◌, ◌<◌, ◌≤◌, Bool, true, false, List, [], ◌∷◌, ◌++◌, map, length, decimal, Option, Some, None, Result, Ok, Err, refl, sym, ap, ap₂, ◌∙◌, subst, arith, append_assoc, append-nil}
+use Rattle.std.proofs.Common.{◌≡◌, ◌≢◌, ℕ, ◌+◌, ◌^◌, ◌<◌, ◌≤◌, true, false, List, [], ◌∷◌, ◌++◌, map, decimal, Ok, Err, refl, sym, ap, ap₂, ◌∙◌, subst, arith, append_assoc, append-nil}
 use Rattle.std.proofs.lemmas.Fmt.{decimal_injective}
 use Rattle.ps_script.specs.declared.name.Place.{Place}
 use Rattle.ps_script.specs.declared.order.Order.{Order}
 use Rattle.ps_script.specs.declared.order.Order.TheVariants.{Open, Splice, Retire, Ask, AskPhase, Prove, Sum, Show}
 use Rattle.ps_script.specs.declared.script.Line.{Line}
-use Rattle.ps_script.specs.declared.script.Script.{Script}
 use Rattle.ps_script.specs.declared.fault.ScriptFault.{ScriptFault}
 use Rattle.ps_script.specs.declared.fault.ScriptFault.TheVariants.{Form, Session, Block, Memory}
-use Rattle.ps_script.specs.Lines.{line_of, rest_of, HasBlock, HasNoBlock}
-use Rattle.ps_script.specs.Words.{words}
+use Rattle.ps_script.specs.Lines.{line_of, rest_of}
 use Rattle.ps_script.specs.Orders.{pair_words, IsPlace, IsOrder, verb_of, argument_words, Spells, SpellsNone, takes_block}
 use Rattle.ps_script.specs.Reading.{Read, Asked, asked_of, behind, is_skipped, IsReading, at_end, at_line, IsLineReading, skipped, ordered, formless, IsOrderReading, above, plain, blocked, unended, Known, Only}
 use Rattle.ps_script.specs.Items.{IsBody, with_block, without_block, LacksBody, LeadsOn, OrderLeadsOn, FaultIs}
