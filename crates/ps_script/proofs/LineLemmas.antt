@@ -55,15 +55,6 @@ pub record Passed (bytes : List ℕ) (lines : ℕ) (rest : List ℕ) : Type 0 wh
   pub found : (text : List ℕ) (n : ℕ) (after : List ℕ) → HasBlock rest text n after → HasBlock bytes (front ++ text) (lines + n) after
   pub missing : HasNoBlock rest → HasNoBlock bytes
 
-pub passed_none : (bytes : List ℕ) → Passed bytes 0 bytes
-passed_none bytes = record {
-  front = [];
-  parted = refl;
-  count = omega arith;
-  found = λ text n after h. subst (λ k. HasBlock bytes text k after) (omega arith) h;
-  missing = λ h. h;
-}
-
 -- The first line and its end, in front of what stands behind it.
 pub rest_parted : (bytes : List ℕ) → (front : List ℕ) × (bytes ≡ front ++ rest_of bytes)
 unfolding rest_of
@@ -83,7 +74,8 @@ passed_more bytes lines rest next p some other e less =
       found = λ text n after h.
           let one = p.found (q.0 ++ text) (n + 1) after (ends_later q.0 some other q.1 h refl refl) in
           let count : lines + (n + 1) ≡ lines + 1 + n = omega arith in
-          subst (λ k. HasBlock bytes ((p.front ++ q.0) ++ text) k after) count (subst (λ x. HasBlock bytes x (lines + (n + 1)) after) (sym (append_assoc p.front q.0 text)) one);
+          subst (λ k. HasBlock bytes ((p.front ++ q.0) ++ text) k after) count
+          (subst (λ x. HasBlock bytes x (lines + (n + 1)) after) (sym (append_assoc p.front q.0 text)) one);
       missing = λ h. p.missing (no_end some other h);
     })
 
