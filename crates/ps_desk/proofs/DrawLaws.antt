@@ -81,7 +81,8 @@ module _ {O C R : Type 0} (journal : O → List (Entry C R)) (spare : O → ℕ)
         }
 
     -- a ticket that is refused
-    draws_none : (s : State (Option O) (View C R)) (r : Rule journal spare legal seats s) → get_elem? s.views id ≡ some v → v.refused ≡ None → 262144 ≤ r.tickets
+    draws_none : (s : State (Option O) (View C R)) (r : Rule journal spare legal seats s) → get_elem? s.views id ≡ some v
+        → v.refused ≡ None → 262144 ≤ r.tickets
         → Rule journal spare legal seats record { words = up s.words; homes = s.homes; views = slice_set s.views id (refusing v r.tickets) }
     draws_none s r at first above =
         let w = refusing v r.tickets in

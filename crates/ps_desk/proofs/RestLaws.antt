@@ -46,7 +46,3 @@ module _ {O C R : Type 0} (m mid after : Sitting O C R) (w : View C R) (number n
         own = own ∙ ap (λ n. own_of n (settled (receiving m.0 w)).seen) r.number_is.0;
         plain = λ other. absurd (subst (λ (k : List ℕ). Has k w.number) (r.plain other).1 has);
       }) told.own)
-
--- A refused seat knows no more by being refused again.
-pub refused_again : {C R : Type 0} (v : View C R) (t : ℕ) → v.refused ≡ Some t → v ≡ refusing v t
-refused_again {C} {R} v t e = ap (λ (o : Option ℕ). record v { refused = o }) e

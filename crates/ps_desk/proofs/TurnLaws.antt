@@ -147,7 +147,11 @@ module _ {O C R : Type 0} (journal : O → List (Entry C R)) (spare : O → ℕ)
       -- The slot is given back, and the serving word goes up.
       gives_it : (s : State (Option O) (View C R)) (r : Rule journal spare legal seats s) → length s.homes ≡ 1 → get_elem? s.views id ≡ some v
           → Rule journal spare legal seats
-          record { words = slice_set s.words 1 ((slice_index s.words 1 + 1) % 2 ^ 64); homes = slice_set s.homes 0 (some (Some o)); views = slice_set s.views id (after v h x) }
+          record {
+            words = slice_set s.words 1 ((slice_index s.words 1 + 1) % 2 ^ 64);
+            homes = slice_set s.homes 0 (some (Some o));
+            views = slice_set s.views id (after v h x);
+          }
       gives_it s r wide at =
           let w = after v h x in
           let f = r.each id v at in
@@ -209,7 +213,8 @@ module _ {O C R : Type 0} (journal : O → List (Entry C R)) (spare : O → ℕ)
             waited = λ t low high less. waits_set s.views id t v w at
                 (λ e. absurd (let z : Some (length r.history) ≡ Some t = sym found.1 ∙ e in let z' : length r.history ≡ t = cc in omega arith))
                 (r.waited t (omega arith) high less);
-            roster = subst (Roster (journal o) r.tickets) (sym (map_set core s.views id v w at refl)) (subst (λ k. Roster k r.tickets (map core s.views)) (sym more)
+            roster = subst (Roster (journal o) r.tickets) (sym (map_set core s.views id v w at refl))
+                (subst (λ k. Roster k r.tickets (map core s.views)) (sym more)
                 (one_more r.history x r.tickets id (core v) (map core s.views) (at_map core s.views id v at) live by r.roster));
             few = omega arith;
             shared = (omega arith, shared.1);

@@ -60,7 +60,8 @@ pub record Roster {C R : Type 0} (history : List (Entry C R)) (tickets : ℕ) (c
   pub first_is : (first.live ≡ true) × (first.number ≡ 0) × (first.next ≤ first.end) × (length first.out + length first.ended + 1 ≡ first.next)
   pub covers : (n : ℕ) → n < first.next
       → (n ≡ 0) ⊎ (Has first.out n ⊎ ((k : ℕ) × (e : Ended C R) × (get_elem? first.ended k ≡ some e) × (e.number ≡ n)))
-  pub numbers : (i j : ℕ) (a b : Core C R) → get_elem? cores i ≡ some a → get_elem? cores j ≡ some b → a.live ≡ true → b.live ≡ true → a.number ≡ b.number → i ≡ j
+  pub numbers : (i j : ℕ) (a b : Core C R) → get_elem? cores i ≡ some a → get_elem? cores j ≡ some b 
+      → a.live ≡ true → b.live ≡ true → a.number ≡ b.number → i ≡ j
   pub below : (i : ℕ) (a : Core C R) → get_elem? cores i ≡ some a → a.live ≡ true → a.number < first.next
   pub others : (i : ℕ) (a : Core C R) → get_elem? cores i ≡ some a → a.live ≡ true → i ≢ 0
       → Has first.out a.number × (a.next ≡ a.end) × (a.out ≡ []) × (a.ended ≡ [])
@@ -89,7 +90,8 @@ refusals v = cond v.live (refusal v.refused + total (λ e. refusal e.refused) v.
 abbrev pub parts : {C R : Type 0} → View C R → ℕ
 parts v = cond v.live (1 + (v.end - v.next) + length v.ended) 0
 
-pub record Rule {O C R : Type 0} (journal : O → List (Entry C R)) (spare : O → ℕ) (legal : List (Entry C R) → Type 0) (seats : ℕ) (s : State (Option O) (View C R)) : Type 0 where
+pub record Rule {O C R : Type 0} (journal : O → List (Entry C R)) (spare : O → ℕ) (legal : List (Entry C R) → Type 0) (seats : ℕ)
+    (s : State (Option O) (View C R)) : Type 0 where
   -- the history is legal, and as long as turns have ended
   pub history : List (Entry C R)
   pub tickets : ℕ

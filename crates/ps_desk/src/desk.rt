@@ -91,7 +91,8 @@ impl<O: Object> Desk<O> {
         requires number { (token.old.me.0.number ≡ number) × (number < 64) }
         requires holds { (o : O) × Holds O.journal O.spare O.legal token.old.me o }
         ensures desk { token.new.table_id ≡ token.old.table_id }
-        ensures done { (h : List (Entry O.Cmd O.Reply)) × (token.old.me.0.found ≡ Some h) × (token.new.me ≡ (after token.old.me.0 h (entry number cmd result), [])) × O.legal (h ++ entry number cmd result ∷ []) }
+        ensures done { let x = entry number cmd result in (h : List (Entry O.Cmd O.Reply)) × (token.old.me.0.found ≡ Some h)
+            × (token.new.me ≡ (after token.old.me.0 h x, [])) × O.legal (h ++ x ∷ []) }
     {
         let shared = &self.table.shared;
         let Some(mut object) = shared.exchange(token, 0, None) else {
@@ -122,7 +123,8 @@ impl<O: Object> Desk<O> {
         requires desk { IsSeatOf self.now seat.old }
         ensures desk { desk_of seat.new ≡ desk_of seat.old }
         ensures done { IfOk result (λ reply. Turned O.legal (view_of seat.old) (view_of seat.new) cmd reply) }
-        ensures full { IfErr result (λ f. (view_of seat.new ≡ refusing (view_of seat.old) f.ticket) × (262144 ≤ f.ticket)) }
+        ensures full { IfErr result (λ f. view_of seat.new ≡ refusing (view_of seat.old) f.ticket) }
+        ensures above { IfErr result (λ f. 262144 ≤ f.ticket) }
         ensures again { (t : ℕ) → (view_of seat.old).refused ≡ Some t → result ≡ Err record { ticket = t } }
     {
         if let Some(ticket) = seat.refused {
@@ -147,7 +149,8 @@ impl<O: Object> Desk<O> {
     pub fn split(&self, seat: &mut Seat<O>) -> Result<Seat<O>, NoSeat>
         requires desk { IsSeatOf self.now seat.old }
         ensures desk { desk_of seat.new ≡ desk_of seat.old }
-        ensures given { IfOk result (λ new. (desk_of new ≡ desk_of seat.old) × (view_of new ≡ given (view_of seat.old))) }
+        ensures given { IfOk result (λ new. view_of new ≡ given (view_of seat.old)) }
+        ensures given_desk { IfOk result (λ new. desk_of new ≡ desk_of seat.old) }
         ensures giving { OnOk result (view_of seat.new ≡ giving (view_of seat.old)) }
         ensures spare { OnOk result ((view_of seat.old).next < (view_of seat.old).end) }
         ensures none { OnErr result ((view_of seat.old).next ≡ (view_of seat.old).end) }

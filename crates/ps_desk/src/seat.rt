@@ -31,7 +31,7 @@ pub struct Seat<O: Object> {
     pub(crate) end: u32,
     pub(crate) out: u32,
     pub(crate) refused: Option<u64>,
-    ghost rests: { Rests token.me number next end out refused },
+    pub ghost rests: { Rests token.me number next end out refused },
 }
 
 /// A desk that serves one object, for at most 64 seats. Threads share it by reference.

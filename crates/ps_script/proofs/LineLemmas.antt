@@ -1,8 +1,7 @@
 -- Lines, and blocks of lines.
-use Rattle.std.proofs.Common.{◌≡◌, ◌≢◌, ℕ, zero, suc, ◌+◌, ◌-◌, ◌<◌, ◌≤◌, ◌==◌, Bool, true, false, cond, List, [], ◌∷◌, ◌++◌, length, take, drop, codes, refl, sym, ap, ◌∙◌, subst, arith, append_assoc, append-nil, length-append, take-append-drop, length-drop}
+use Rattle.std.proofs.Common.{◌≡◌, ◌≢◌, ℕ, ◌+◌, ◌-◌, ◌<◌, ◌≤◌, ◌==◌, List, [], ◌∷◌, ◌++◌, length, take, drop, codes, refl, sym, ap, ◌∙◌, subst, arith, append_assoc, append-nil, length-append, take-append-drop}
 use Rattle.std.specs.Prelude.{if◌then◌else◌, Some, None}
-use Rattle.std.specs.List.{before_first, after_first, position, position_or_len}
-use Rattle.std.proofs.lemmas.List.{append_cancel_left}
+use Rattle.std.specs.List.{before_first, position, position_or_len}
 use Rattle.std.proofs.Math.Seq.{take-append_seam}
 use Rattle.ps_script.proofs.WordLemmas.{position_some, position_none, not_below, behind_place, drop_over}
 use Rattle.ps_script.specs.Lines.{is_feed, without_return, line_of, rest_of, HasBlock, ends_here, ends_later, HasNoBlock, no_line, no_end}
@@ -56,15 +55,6 @@ pub record Passed (bytes : List ℕ) (lines : ℕ) (rest : List ℕ) : Type 0 wh
   pub found : (text : List ℕ) (n : ℕ) (after : List ℕ) → HasBlock rest text n after → HasBlock bytes (front ++ text) (lines + n) after
   pub missing : HasNoBlock rest → HasNoBlock bytes
 
-pub passed_none : (bytes : List ℕ) → Passed bytes 0 bytes
-passed_none bytes = record {
-  front = [];
-  parted = refl;
-  count = omega arith;
-  found = λ text n after h. subst (λ k. HasBlock bytes text k after) (omega arith) h;
-  missing = λ h. h;
-}
-
 -- The first line and its end, in front of what stands behind it.
 pub rest_parted : (bytes : List ℕ) → (front : List ℕ) × (bytes ≡ front ++ rest_of bytes)
 unfolding rest_of
@@ -84,7 +74,8 @@ passed_more bytes lines rest next p some other e less =
       found = λ text n after h.
           let one = p.found (q.0 ++ text) (n + 1) after (ends_later q.0 some other q.1 h refl refl) in
           let count : lines + (n + 1) ≡ lines + 1 + n = omega arith in
-          subst (λ k. HasBlock bytes ((p.front ++ q.0) ++ text) k after) count (subst (λ x. HasBlock bytes x (lines + (n + 1)) after) (sym (append_assoc p.front q.0 text)) one);
+          subst (λ k. HasBlock bytes ((p.front ++ q.0) ++ text) k after) count
+          (subst (λ x. HasBlock bytes x (lines + (n + 1)) after) (sym (append_assoc p.front q.0 text)) one);
       missing = λ h. p.missing (no_end some other h);
     })
 

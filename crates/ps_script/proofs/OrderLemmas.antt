@@ -1,11 +1,11 @@
 -- Parts of command lines, from the words of their bytes.
-use Rattle.std.proofs.Common.{◌≡◌, ◌≢◌, ℕ, ◌+◌, ◌*◌, ◌^◌, ◌<◌, true, false, List, [], ◌∷◌, codes, decimal, refl, sym, ap, ◌∙◌, subst, arith}
+use Rattle.std.proofs.Common.{◌≡◌, ◌≢◌, ℕ, ◌+◌, ◌*◌, ◌^◌, ◌<◌, true, false, List, [], ◌∷◌, codes, decimal, refl, sym, ap, ◌∙◌, arith}
 use Rattle.ps_script.specs.declared.name.Place.{Place}
 use Rattle.ps_script.specs.declared.order.Order.{Order}
 use Rattle.ps_script.specs.declared.order.Order.TheVariants.{Open, Splice, Retire, Ask, AskPhase, Prove, Sum, Show}
 use Rattle.ps_script.specs.Names.{is_name}
 use Rattle.ps_script.specs.Words.{words, SpellsNumber, NoNumber}
-use Rattle.ps_script.specs.Orders.{place_words, pair_words, IsPlace, IsOrder, verb_of, argument_words, Spells, SpellsNone}
+use Rattle.ps_script.specs.Orders.{place_words, pair_words, IsPlace, verb_of, argument_words, Spells, SpellsNone}
 use Rattle.ps_script.specs.Arguments.{SpellsPlace, NoPlace, SpellsPair, NoPair, SpellsPhase, NoPhase, SpellsSpan, NoSpan, HasArguments, HasNone, SpellsOrder, NoOrder}
 use Rattle.ps_script.proofs.WordLemmas.{alone, name_word, number_word, number_alone}
 
@@ -74,7 +74,8 @@ module _ (bytes first rest : List ℕ) (cut : words bytes ≡ first ∷ words re
   module _ (second more : List ℕ) (cut' : words rest ≡ second ∷ words more) where
     pub pair_is : (p q : Place) → p.name ≡ first → is_name first ≡ true → SpellsNumber second p.version → SpellsPlace more q → SpellsPair bytes p q
     pair_is p q e name s k = record {
-      spelled = cut ∙ (ap (λ x. x ∷ words rest) (sym e) ∙ ap (λ ws. p.name ∷ ws) (cut' ∙ (ap (λ x. x ∷ words more) (sym s.spelled) ∙ ap (λ ws. decimal p.version ∷ ws) k.spelled)));
+      spelled = cut ∙ (ap (λ x. x ∷ words rest) (sym e) ∙ ap (λ ws. p.name ∷ ws)
+          (cut' ∙ (ap (λ x. x ∷ words more) (sym s.spelled) ∙ ap (λ ws. decimal p.version ∷ ws) k.spelled)));
       first = record { name = ap is_name e ∙ name; below = s.below };
       second = k.formed;
     }
@@ -97,23 +98,6 @@ span_ends bytes e f t s = no_rest (sym e ∙ s.spelled)
 pub pair_is_cut : (bytes : List ℕ) → words bytes ≡ bytes ∷ [] → NoPair bytes
 pair_is_cut bytes e p q s = no_rest (sym e ∙ s.spelled)
 
-pub phase_ends : (bytes : List ℕ) → words bytes ≡ bytes ∷ [] → NoPhase bytes
-phase_ends bytes e p q s = no_rest (sym e ∙ s.spelled)
-
-pub phase_other : (bytes first rest : List ℕ) → words bytes ≡ first ∷ words rest → first ≢ codes "phase" → NoPhase bytes
-phase_other bytes first rest cut other p q s = other (first_is bytes first rest cut (codes "phase") (pair_words p q) s.spelled)
-
-pub phase_none : (bytes first rest : List ℕ) → words bytes ≡ first ∷ words rest → NoPair rest → NoPhase bytes
-phase_none bytes first rest cut none p q s =
-    none p q (record { spelled = behind_first bytes first rest cut (codes "phase") (pair_words p q) s.spelled; first = s.first; second = s.second })
-
-pub phase_is : (bytes first rest : List ℕ) → words bytes ≡ first ∷ words rest → first ≡ codes "phase" → (p q : Place) → SpellsPair rest p q → SpellsPhase bytes p q
-phase_is bytes first rest cut is p q s = record {
-  spelled = cut ∙ (ap (λ x. x ∷ words rest) is ∙ ap (λ ws. codes "phase" ∷ ws) s.spelled);
-  first = s.first;
-  second = s.second;
-}
-
 -- ---- orders by their first word
 -- the first two letters of a word as one number
 unfoldable pub letters : List ℕ → ℕ
@@ -130,89 +114,3 @@ pub open_is : (bytes n : List ℕ) → n ≡ bytes → is_name bytes ≡ true �
 open_is bytes n e h =
     let name : is_name n ≡ true = ap is_name e ∙ h in
     record { verb_is = refl; spelled = ap words (sym e) ∙ name_word n name; formed = name }
-
-pub splice_none : (bytes : List ℕ) → ((p : Place) (f t : ℕ) → words bytes ≡ p.name ∷ decimal p.version ∷ decimal f ∷ decimal t ∷ [] → IsPlace p → f < 2 ^ 32 → t < 2 ^ 32 → ⊥)
-    → HasNone (codes "splice") bytes
-unfolding letters
-splice_none bytes none (Splice p f t) h = none p f t h.spelled h.formed.0 h.formed.1 h.formed.2
-splice_none bytes none o h = absurd (let e = ap letters h.verb_is in omega (arith, e))
-
-pub retire_none : (bytes : List ℕ) → NoPlace bytes → HasNone (codes "retire") bytes
-unfolding letters
-retire_none bytes none (Retire p) h = none p (record { spelled = h.spelled; formed = h.formed })
-retire_none bytes none o h = absurd (let e = ap letters h.verb_is in omega (arith, e))
-
-pub sum_none : (bytes : List ℕ) → NoPlace bytes → HasNone (codes "sum") bytes
-unfolding letters
-sum_none bytes none (Sum p) h = none p (record { spelled = h.spelled; formed = h.formed })
-sum_none bytes none o h = absurd (let e = ap letters h.verb_is in omega (arith, e))
-
-pub show_none : (bytes : List ℕ) → NoPlace bytes → HasNone (codes "show") bytes
-unfolding letters
-show_none bytes none (Show p) h = none p (record { spelled = h.spelled; formed = h.formed })
-show_none bytes none o h = absurd (let e = ap letters h.verb_is in omega (arith, e))
-
-pub prove_none : (bytes : List ℕ) → NoPair bytes → HasNone (codes "prove") bytes
-unfolding letters
-prove_none bytes none (Prove p q) h = none p q (record { spelled = h.spelled; first = h.formed.0; second = h.formed.1 })
-prove_none bytes none o h = absurd (let e = ap letters h.verb_is in omega (arith, e))
-
-pub ask_none : (bytes : List ℕ) → NoPhase bytes → NoPair bytes → HasNone (codes "ask") bytes
-unfolding letters
-ask_none bytes phase none (Ask p q) h = none p q (record { spelled = h.spelled; first = h.formed.0; second = h.formed.1 })
-ask_none bytes phase none (AskPhase p q) h = phase p q (record { spelled = h.spelled; first = h.formed.0; second = h.formed.1 })
-ask_none bytes phase none o h = absurd (let e = ap letters h.verb_is in omega (arith, e))
-
--- No order begins with another word.
-pub no_verb : (verb bytes : List ℕ) → verb ≢ codes "open" → verb ≢ codes "splice" → verb ≢ codes "retire" → verb ≢ codes "ask" → verb ≢ codes "prove"
-    → verb ≢ codes "sum" → verb ≢ codes "show" → HasNone verb bytes
-no_verb verb bytes opens splice retire ask prove sum show (Open n) h = opens (sym h.verb_is)
-no_verb verb bytes opens splice retire ask prove sum show (Splice p f t) h = splice (sym h.verb_is)
-no_verb verb bytes opens splice retire ask prove sum show (Retire p) h = retire (sym h.verb_is)
-no_verb verb bytes opens splice retire ask prove sum show (Ask p q) h = ask (sym h.verb_is)
-no_verb verb bytes opens splice retire ask prove sum show (AskPhase p q) h = ask (sym h.verb_is)
-no_verb verb bytes opens splice retire ask prove sum show (Prove p q) h = prove (sym h.verb_is)
-no_verb verb bytes opens splice retire ask prove sum show (Sum p) h = sum (sym h.verb_is)
-no_verb verb bytes opens splice retire ask prove sum show (Show p) h = show (sym h.verb_is)
-
--- ---- whole orders, and lines
-pub order_ends : (bytes : List ℕ) → words bytes ≡ bytes ∷ [] → NoOrder bytes
-order_ends bytes e (Open n) s = no_rest (sym e ∙ s.spelled)
-order_ends bytes e (Splice p f t) s = no_rest (sym e ∙ s.spelled)
-order_ends bytes e (Retire p) s = no_rest (sym e ∙ s.spelled)
-order_ends bytes e (Ask p q) s = no_rest (sym e ∙ s.spelled)
-order_ends bytes e (AskPhase p q) s = no_rest (sym e ∙ s.spelled)
-order_ends bytes e (Prove p q) s = no_rest (sym e ∙ s.spelled)
-order_ends bytes e (Sum p) s = no_rest (sym e ∙ s.spelled)
-order_ends bytes e (Show p) s = no_rest (sym e ∙ s.spelled)
-
-pub order_none : (bytes first rest : List ℕ) → words bytes ≡ first ∷ words rest → HasNone first rest → NoOrder bytes
-order_none bytes first rest cut none o s =
-    none o (record {
-      verb_is = sym (first_is bytes first rest cut (verb_of o) (argument_words o) s.spelled);
-      spelled = behind_first bytes first rest cut (verb_of o) (argument_words o) s.spelled;
-      formed = s.formed;
-    })
-
-pub order_is : (bytes first rest : List ℕ) → words bytes ≡ first ∷ words rest → (o : Order) → HasArguments first rest o → SpellsOrder bytes o
-order_is bytes first rest cut o h = record {
-  spelled = cut ∙ (ap (λ x. x ∷ words rest) (sym h.verb_is) ∙ ap (λ ws. verb_of o ∷ ws) h.spelled);
-  formed = h.formed;
-}
-
-pub line_ends : (bytes : List ℕ) → words bytes ≡ bytes ∷ [] → SpellsNone bytes
-line_ends bytes e session o s = no_rest (sym e ∙ s.spelled)
-
-pub line_unnumbered : (bytes first rest : List ℕ) → words bytes ≡ first ∷ words rest → NoNumber first → SpellsNone bytes
-line_unnumbered bytes first rest cut none session o s = no_numbered bytes first rest cut session (verb_of o ∷ argument_words o) none s.spelled s.below
-
-pub line_no_order : (bytes first rest : List ℕ) → words bytes ≡ first ∷ words rest → NoOrder rest → SpellsNone bytes
-line_no_order bytes first rest cut none session o s =
-    none o (record { spelled = behind_first bytes first rest cut (decimal session) (verb_of o ∷ argument_words o) s.spelled; formed = s.formed })
-
-pub line_is : (bytes first rest : List ℕ) → words bytes ≡ first ∷ words rest → (session : ℕ) (o : Order) → SpellsNumber first session → SpellsOrder rest o → Spells bytes session o
-line_is bytes first rest cut session o n s = record {
-  spelled = cut ∙ (ap (λ x. x ∷ words rest) (sym n.spelled) ∙ ap (λ ws. decimal session ∷ ws) s.spelled);
-  below = n.below;
-  formed = s.formed;
-}

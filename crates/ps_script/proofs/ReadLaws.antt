@@ -1,15 +1,13 @@
 -- What bytes are read as is one thing, and what is read first leads on.
-use Rattle.std.proofs.Common.{◌≡◌, ◌≢◌, ℕ, ◌+◌, ◌^◌, ◌<◌, ◌≤◌, Bool, true, false, List, [], ◌∷◌, ◌++◌, map, length, decimal, Option, Some, None, Result, Ok, Err, refl, sym, ap, ap₂, ◌∙◌, subst, arith, append_assoc, append-nil}
+use Rattle.std.proofs.Common.{◌≡◌, ◌≢◌, ℕ, ◌+◌, ◌^◌, ◌<◌, ◌≤◌, true, false, List, [], ◌∷◌, ◌++◌, map, decimal, Ok, Err, refl, sym, ap, ap₂, ◌∙◌, subst, arith, append_assoc, append-nil}
 use Rattle.std.proofs.lemmas.Fmt.{decimal_injective}
 use Rattle.ps_script.specs.declared.name.Place.{Place}
 use Rattle.ps_script.specs.declared.order.Order.{Order}
 use Rattle.ps_script.specs.declared.order.Order.TheVariants.{Open, Splice, Retire, Ask, AskPhase, Prove, Sum, Show}
 use Rattle.ps_script.specs.declared.script.Line.{Line}
-use Rattle.ps_script.specs.declared.script.Script.{Script}
 use Rattle.ps_script.specs.declared.fault.ScriptFault.{ScriptFault}
 use Rattle.ps_script.specs.declared.fault.ScriptFault.TheVariants.{Form, Session, Block, Memory}
-use Rattle.ps_script.specs.Lines.{line_of, rest_of, HasBlock, HasNoBlock}
-use Rattle.ps_script.specs.Words.{words}
+use Rattle.ps_script.specs.Lines.{line_of, rest_of}
 use Rattle.ps_script.specs.Orders.{pair_words, IsPlace, IsOrder, verb_of, argument_words, Spells, SpellsNone, takes_block}
 use Rattle.ps_script.specs.Reading.{Read, Asked, asked_of, behind, is_skipped, IsReading, at_end, at_line, IsLineReading, skipped, ordered, formless, IsOrderReading, above, plain, blocked, unended, Known, Only}
 use Rattle.ps_script.specs.Items.{IsBody, with_block, without_block, LacksBody, LeadsOn, OrderLeadsOn, FaultIs}
@@ -24,7 +22,8 @@ number_once m n h k e = decimal_injective m n (omega arith) (omega arith) e
 place_once : (p q : Place) → IsPlace p → IsPlace q → p.name ≡ q.name → decimal p.version ≡ decimal q.version → p ≡ q
 place_once p q h k e f = ap₂ (λ (n : List ℕ) (v : ℕ). record { name = n; version = v }) e (number_once p.version q.version h.below k.below f)
 
-pair_once : {A : Type 0} (make : Place → Place → A) (p q p' q' : Place) → IsPlace p → IsPlace q → IsPlace p' → IsPlace q' → pair_words p q ≡ pair_words p' q' → make p q ≡ make p' q'
+pair_once : {A : Type 0} (make : Place → Place → A) (p q p' q' : Place) → IsPlace p → IsPlace q → IsPlace p' → IsPlace q'
+    → pair_words p q ≡ pair_words p' q' → make p q ≡ make p' q'
 pair_once make p q p' q' hp hq hp' hq' e = ap₂ make (place_once p p' hp hp' (cc) (cc)) (place_once q q' hq hq' (cc) (cc))
 
 order_once : (o o' : Order) → verb_of o ≡ verb_of o' → argument_words o ≡ argument_words o' → IsOrder o → IsOrder o' → o ≡ o'
@@ -102,7 +101,8 @@ mutual
   same_order n session o rest r s (plain l e k g) (unended l' e' b g') = absurd (not_both (takes_block o) e' e)
   same_order n session o rest r s (blocked l e b k g) (above h f) = absurd (omega arith)
   same_order n session o rest r s (blocked l e b k g) (plain l' e' k' g') = absurd (not_both (takes_block o) e e')
-  same_order n session o rest r s (blocked {lines} {text} {after} {s = t} l e b k g) (blocked {lines = lines'} {text = text'} {after = after'} {s = t'} l' e' b' k' g') =
+  same_order n session o rest r s (blocked {lines} {text} {after} {s = t} l e b k g)
+      (blocked {lines = lines'} {text = text'} {after = after'} {s = t'} l' e' b' k' g') =
       let same = block_once rest text' text lines' lines after' after b' b in
       let moved = subst (λ x. IsReading (n + 1 + x) after t') same.lines (subst (λ x. IsReading (n + 1 + lines') x t') same.rest k') in
       g ∙ (asked_once session o text text' t t' (sym same.text) (same_reading (n + 1 + lines) after t t' k moved) ∙ sym g')
@@ -123,10 +123,6 @@ only_reading bytes (Err Memory) h = tt
 behind_nothing : (r : Read) → behind [] r ≡ r
 behind_nothing (Ok xs) = refl
 behind_nothing (Err e) = refl
-
-behind_both : (xs ys : List Asked) (r : Read) → behind xs (behind ys r) ≡ behind (xs ++ ys) r
-behind_both xs ys (Ok zs) = ap Ok (sym (append_assoc xs ys zs))
-behind_both xs ys (Err e) = refl
 
 module _ (n : ℕ) (bytes : List ℕ) (some : bytes ≢ []) (line rest : List ℕ) (l : line ≡ line_of bytes) (t : rest ≡ rest_of bytes) where
   -- by the first line and what stands behind it
@@ -151,7 +147,8 @@ module _ (n : ℕ) (bytes : List ℕ) (some : bytes ≢ []) (line rest : List �
   order_fault session o Memory f s h = tt
 
 -- a right session and a body
-pub body_leads : (n session : ℕ) (o : Order) (bytes text : List ℕ) (lines : ℕ) (rest : List ℕ) (a : Asked) (m : ℕ) → session ≤ 15 → IsBody o bytes text lines rest
+pub body_leads : (n session : ℕ) (o : Order) (bytes text : List ℕ) (lines : ℕ) (rest : List ℕ) (a : Asked) (m : ℕ)
+    → session ≤ 15 → IsBody o bytes text lines rest
     → a ≡ record { session = session; order = o; block = text } → m ≡ n + (lines + 1) → OrderLeadsOn n session o bytes (a ∷ []) m rest
 body_leads n session o bytes text lines rest a m low (with_block takes has) e k r h =
     blocked low takes has (subst (λ i. IsReading i rest r) (k ∙ omega arith) h) (ap (λ (x : Asked). behind (x ∷ []) r) e)
@@ -166,34 +163,8 @@ session_read n session o bytes h = above h refl
 pub block_read : (n session : ℕ) (o : Order) (bytes : List ℕ) → session ≤ 15 → LacksBody o bytes → IsOrderReading n session o bytes (Err (Block n))
 block_read n session o bytes low lacks = unended low lacks.wanted lacks.missing refl
 
--- ---- all items
-pub leads_first : (bytes : List ℕ) (xs : List Line) → xs ≡ [] → LeadsOn 1 bytes (map asked_of xs) 1 bytes
-leads_first bytes xs e r h = subst (IsReading 1 bytes) (sym (ap (λ ys. behind (map asked_of ys) r) e ∙ behind_nothing r)) h
-
-map_more : (xs : List Line) (x : Line) → map asked_of (xs ++ x ∷ []) ≡ map asked_of xs ++ asked_of x ∷ []
-map_more [] x = refl
-map_more (y ∷ ys) x = ap (λ zs. asked_of y ∷ zs) (map_more ys x)
-
-leads_both : (bytes : List ℕ) (xs ys : List Asked) (n m : ℕ) (mid rest : List ℕ) → LeadsOn 1 bytes xs n mid → LeadsOn n mid ys m rest → LeadsOn 1 bytes (xs ++ ys) m rest
-leads_both bytes xs ys n m mid rest h k r g = subst (IsReading 1 bytes) (behind_both xs ys r) (h (behind ys r) (k r g))
-
-pub leads_command : (bytes : List ℕ) (lines lines' : List Line) (line : Line) (n m : ℕ) (mid rest : List ℕ) → LeadsOn 1 bytes (map asked_of lines) n mid
-    → LeadsOn n mid (asked_of line ∷ []) m rest → lines' ≡ lines ++ line ∷ [] → LeadsOn 1 bytes (map asked_of lines') m rest
-leads_command bytes lines lines' line n m mid rest h k e =
-    subst (λ xs. LeadsOn 1 bytes xs m rest) (sym (ap (map asked_of) e ∙ map_more lines line)) (leads_both bytes (map asked_of lines) (asked_of line ∷ []) n m mid rest h k)
-
-pub leads_skip : (bytes : List ℕ) (lines : List Line) (n m : ℕ) (mid rest : List ℕ) → LeadsOn 1 bytes (map asked_of lines) n mid → LeadsOn n mid [] m rest
-    → LeadsOn 1 bytes (map asked_of lines) m rest
-leads_skip bytes lines n m mid rest h k =
-    subst (λ xs. LeadsOn 1 bytes xs m rest) (append-nil (map asked_of lines)) (leads_both bytes (map asked_of lines) [] n m mid rest h k)
-
-pub leads_end : (bytes : List ℕ) (lines : List Line) (n : ℕ) (rest : List ℕ) → LeadsOn 1 bytes (map asked_of lines) n rest → rest ≡ [] → IsReading 1 bytes (Ok (map asked_of lines))
+-- ---- the end of the items
+pub leads_end : (bytes : List ℕ) (lines : List Line) (n : ℕ) (rest : List ℕ) → LeadsOn 1 bytes (map asked_of lines) n rest → rest ≡ []
+    → IsReading 1 bytes (Ok (map asked_of lines))
 leads_end bytes lines n rest h e =
     subst (λ xs. IsReading 1 bytes (Ok xs)) (append-nil (map asked_of lines)) (h (Ok []) (at_end e refl))
-
-pub leads_fault : (bytes : List ℕ) (xs : List Asked) (n : ℕ) (rest : List ℕ) (e : ScriptFault) → LeadsOn 1 bytes xs n rest → FaultIs e (IsReading n rest)
-    → Known (Err e) (IsReading 1 bytes)
-leads_fault bytes xs n rest (Form k) h f = h (Err (Form k)) f
-leads_fault bytes xs n rest (Session k) h f = h (Err (Session k)) f
-leads_fault bytes xs n rest (Block k) h f = h (Err (Block k)) f
-leads_fault bytes xs n rest Memory h f = tt

@@ -1,10 +1,10 @@
 -- Words, and numbers as they are written.
-use Rattle.std.proofs.Common.{◌≡◌, ◌≢◌, ℕ, zero, suc, ◌+◌, ◌-◌, ◌*◌, ◌/◌, ◌%◌, ◌^◌, ◌<◌, ◌≤◌, ◌==◌, Bool, true, false, ◌&&◌, cond, List, [], ◌∷◌, ◌++◌, length, take, drop, decimal, Option, Some, None, refl, sym, ap, ◌∙◌, subst, arith, length-drop, get_or, add-one, drop-cons, not}
+use Rattle.std.proofs.Common.{◌≡◌, ◌≢◌, ℕ, zero, suc, ◌+◌, ◌-◌, ◌*◌, ◌/◌, ◌%◌, ◌^◌, ◌<◌, ◌≤◌, ◌==◌, Bool, true, false, cond, List, [], ◌∷◌, ◌++◌, length, take, drop, decimal, Some, None, refl, sym, ap, ◌∙◌, arith, length-drop, get_or, add-one, drop-cons, not}
 use Rattle.std.specs.Prelude.{nat_lt}
-use Rattle.std.specs.List.{slice_split, onto_first, position, position_or_len, before_first, after_first, list_all, All, join_with_byte}
+use Rattle.std.specs.List.{onto_first, position, position_or_len, list_all, join_with_byte}
 use Rattle.std.proofs.lemmas.Bool.{and_parts}
 use Rattle.std.proofs.lemmas.Bool.Decides.{nat_tests}
-use Rattle.std.proofs.lemmas.List.Splits.{slice_split_none, slice_split_first, join_with_byte-slice_split}
+use Rattle.std.proofs.lemmas.List.Splits.{slice_split_first, join_with_byte-slice_split}
 use Rattle.std.proofs.lemmas.List.{take_all}
 use Rattle.std.proofs.lemmas.Fmt.{decimal_by_steps}
 use Rattle.ps_script.specs.Names.{is_name, is_lower, is_rest}
@@ -102,7 +102,8 @@ number_none bytes v e other w below same =
     other (ap decimal one ∙ same)
 
 -- One more byte, and the end.
-pub value_step : (bytes : List ℕ) (v i digit : ℕ) → i < length bytes → digit ≡ (get_or bytes i 0 + 208) % 256 → digits_value v (drop i bytes) ≡ digits_value 0 bytes
+pub value_step : (bytes : List ℕ) (v i digit : ℕ) → i < length bytes → digit ≡ (get_or bytes i 0 + 208) % 256
+    → digits_value v (drop i bytes) ≡ digits_value 0 bytes
     → digits_value (((v * 10) % 2 ^ 32 + digit) % 2 ^ 32) (drop (i + 1) bytes) ≡ digits_value 0 bytes
 unfolding digits_value
 value_step bytes v i digit h e so =
@@ -120,17 +121,24 @@ unfolding digits_value
 value_end bytes v i h so = sym (ap (digits_value v) (drop_over bytes i h)) ∙ so
 
 -- ---- where a byte stands first
-pub position_some : (p : ℕ → Bool) (bytes : List ℕ) (at : ℕ) → Some at ≡ position p bytes → (nat_lt (position_or_len p bytes) (length bytes) ≡ true) × (position_or_len p bytes ≡ at)
+pub position_some : (p : ℕ → Bool) (bytes : List ℕ) (at : ℕ) → Some at ≡ position p bytes
+    → (nat_lt (position_or_len p bytes) (length bytes) ≡ true) × (position_or_len p bytes ≡ at)
 position_some p bytes at e =
     let F : Bool → Type 0 = λ t. nat_lt (position_or_len p bytes) (length bytes) ≡ t → Some at ≡ cond t (Some (position_or_len p bytes)) None
     → (nat_lt (position_or_len p bytes) (length bytes) ≡ true) × (position_or_len p bytes ≡ at) in
-    (elim (nat_lt (position_or_len p bytes) (length bytes)) as F [ true ↦ (λ k h. (k, (let same : at ≡ position_or_len p bytes = cc in sym same))) | false ↦ (λ k h. absurd (cc)) ]) refl e
+    (elim (nat_lt (position_or_len p bytes) (length bytes)) as F [
+      | true ↦ (λ k h. (k, (let same : at ≡ position_or_len p bytes = cc in sym same)))
+      | false ↦ (λ k h. absurd (cc))
+    ]) refl e
 
 pub position_none : (p : ℕ → Bool) (bytes : List ℕ) → None ≡ position p bytes → nat_lt (position_or_len p bytes) (length bytes) ≡ false
 position_none p bytes e =
     let F : Bool → Type 0 = λ t. nat_lt (position_or_len p bytes) (length bytes) ≡ t → None ≡ cond t (Some (position_or_len p bytes)) None
     → nat_lt (position_or_len p bytes) (length bytes) ≡ false in
-    (elim (nat_lt (position_or_len p bytes) (length bytes)) as F [ true ↦ (λ k h. absurd (let z : None ≡ Some (position_or_len p bytes) = h in cc)) | false ↦ (λ k h. k) ]) refl e
+    (elim (nat_lt (position_or_len p bytes) (length bytes)) as F [
+      | true ↦ (λ k h. absurd (let z : None ≡ Some (position_or_len p bytes) = h in cc))
+      | false ↦ (λ k h. k)
+    ]) refl e
 
 pub below_of : (m n : ℕ) → nat_lt m n ≡ true → m < n
 below_of m n h = grind (arith, nat_tests)

@@ -1,5 +1,5 @@
 -- What the readers of parts of a command line tell.
-use Rattle.std.specs.Prelude.{◌≡◌, ◌≢◌, ℕ, ◌^◌, ◌<◌, List, [], ◌∷◌, codes, decimal}
+use Rattle.std.specs.Prelude.{◌≡◌, ℕ, ◌^◌, ◌<◌, List, [], ◌∷◌, codes, decimal}
 use Rattle.ps_script.specs.declared.name.Place.{Place}
 use Rattle.ps_script.specs.declared.order.Order.{Order}
 use Rattle.ps_script.specs.Words.{words}

@@ -1,5 +1,5 @@
 -- Words with single spaces between them, and numbers.
-use Rattle.std.specs.Prelude.{◌≡◌, ◌≢◌, ℕ, ◌+◌, ◌-◌, ◌*◌, ◌%◌, ◌^◌, ◌<◌, Bool, ◌==◌, List, [], ◌∷◌, decimal}
+use Rattle.std.specs.Prelude.{◌≡◌, ◌≢◌, ℕ, ◌+◌, ◌*◌, ◌%◌, ◌^◌, ◌<◌, ◌==◌, List, [], ◌∷◌, decimal}
 use Rattle.std.specs.List.{slice_split}
 
 -- The words of the bytes: each space ends one. Two spaces side by side have an empty word between them.

@@ -21,7 +21,7 @@ pub fn find(bytes: &[u8], mark: u8) -> Option<usize>
 
 /// The first of several words. None where there is one alone.
 pub fn cut(bytes: &[u8]) -> Option<Words<'_>>
-    ensures { MatchOption result (words bytes.now ≡ bytes.now ∷ []) (λ w. words bytes.now ≡ w.first.now ∷ words w.rest.now) }
+    ensures { let all = words bytes.now in MatchOption result (all ≡ bytes.now ∷ []) (λ w. all ≡ w.first.now ∷ words w.rest.now) }
 {
     let at = find(bytes, b' ')?;
     Some(Words {

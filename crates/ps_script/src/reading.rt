@@ -69,7 +69,8 @@ fn command(alloc: Global, order: &Order, block: &[u8]) -> Result<Command, AllocE
 // What stands behind the line of an order: its block, or no byte where it takes none.
 fn body<'a>(order: &Order, bytes: &'a [u8]) -> Option<BlockText<'a>>
     requires { length bytes.now ≤ 16777216 }
-    ensures body { MatchOption result (LacksBody order.now bytes.now) (λ b. IsBody order.now bytes.now b.text.now b.lines b.rest.now) }
+    ensures body { MatchOption result (LacksBody order.now bytes.now)
+        (λ b. IsBody order.now bytes.now b.text.now b.lines b.rest.now) }
     ensures short { IfSome result (λ b. b.lines + length b.rest.now ≤ length bytes.now) }
     ensures text { IfSome result (λ b. length b.text.now ≤ length bytes.now) }
 {
@@ -99,10 +100,12 @@ fn ordered<'a>(
     bytes: &'a [u8],
 ) -> Result<Item<'a>, ScriptFault>
     requires { length bytes.now ≤ 16777216 }
-    ensures leads { IfOk result (λ i. OrderLeadsOn number spelled.now.session spelled.now.order bytes.now (asked_in i.line) (number + i.lines) i.rest.now) }
+    ensures leads { IfOk result (λ i.
+        OrderLeadsOn number spelled.now.session spelled.now.order bytes.now (asked_in i.line) (number + i.lines) i.rest.now) }
     ensures short { IfOk result (λ i. i.lines + length i.rest.now ≤ length bytes.now + 1) }
     ensures shorter { IfOk result (λ i. length i.rest.now ≤ length bytes.now) }
-    ensures fault { IfErr result (λ e. FaultIs e (IsOrderReading number spelled.now.session spelled.now.order bytes.now)) }
+    ensures fault { IfErr result (λ e.
+        FaultIs e (IsOrderReading number spelled.now.session spelled.now.order bytes.now)) }
 {
     if spelled.session > LAST_SESSION {
         return Err(ScriptFault::Session(number));

@@ -10,7 +10,7 @@ use std::marker::Model;
 pub struct Line {
     pub session: u32,
     pub command: Command,
-    ghost low: { session ≤ 15 },
+    pub ghost low: { session ≤ 15 },
 }
 
 /// Lines in order. Clauses see the list of them.

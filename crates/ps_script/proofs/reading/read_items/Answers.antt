@@ -1,4 +1,4 @@
-use Rattle.std.proofs.Common.{◌≡◌, length, map, Ok, ap, sym, subst, arith}
+use Rattle.std.proofs.Common.{◌≡◌, length, map, Ok, sym, subst, arith}
 use Rattle.std.proofs.lemmas.Bool.Decides.{nat_tests}
 use Rattle.ps_script.specs.Reading.{asked_of, IsReading}
 use Rattle.ps_script.proofs.LineLemmas.{no_length}

@@ -1,5 +1,3 @@
-use Rattle.std.proofs.Common.{refl, ap, sym, ◌∙◌}
-use Rattle.ps_script.specs.Words.{words}
 use Rattle.ps_script.proofs.OrderLemmas.{open_none, open_is}
 use Rattle.ps_script.proofs.spelling.open.Goals as goal
 

@@ -25,5 +25,6 @@ fetch_add-requires g c =
     let room = had.room in (
       c.exchange-2.ensures.0 ∙ (c.exchange.ensures.0 ∙ c.requires.desk),
       omega arith,
-      end_allowed ob.journal ob.spare ob.legal _ _ _ _ c.args.token.now.me.0 b desk.slots now had.live h x had.found adds (sym c.requires.number.0) lawful (omega arith),
+      end_allowed ob.journal ob.spare ob.legal _ _ _ _ c.args.token.now.me.0 b desk.slots now had.live
+          h x had.found adds (sym c.requires.number.0) lawful (omega arith),
     )
