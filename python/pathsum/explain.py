@@ -82,7 +82,8 @@ def _of_no(answer: No) -> List[str]:
     if answer.question == "phase":
         return [
             head,
-            f"At the basis input {_each(answer.input)} the two circuits give states that differ by more than a phase.",
+            f"At the basis input {_each(answer.input)} the two circuits give states that differ by more than a phase (a "
+            "multiple of 2^-32 of a turn).",
         ]
     means = f"At the basis input {_each(answer.input)} the two circuits give different states."
     return [head, means, EXACT if answer.phase is None else _up_to(answer.phase)]
