@@ -1,0 +1,5 @@
+pub mod Names
+pub mod Verdicts
+pub mod Items
+pub mod Replies
+pub mod Lines
