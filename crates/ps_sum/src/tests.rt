@@ -34,6 +34,28 @@ fn lifts(rt: HostRuntime) -> Result<(), Fail> {
     Ok(())
 }
 
+// x0.x1 + x2 + .. + x16 by a quarter of a turn: a quarter at each monomial, and a half at each two.
+#[test]
+fn lifts_of_many(rt: HostRuntime) -> Result<(), Fail> {
+    let alloc = rt.alloc();
+    let mut monos = vec![in alloc; Mono::var(0).union(&Mono::var(1))]?;
+    for v in 2..17 {
+        monos.push(Mono::var(v))?;
+    }
+    let mut sum = BoolPoly::zero(alloc);
+    let mut wanted = Vec::new(alloc);
+    for i in 0..monos.len() {
+        sum = sum.xor(&BoolPoly::of(alloc, &monos[i])?)?;
+        wanted.push((monos[i], 2))?;
+        for j in 0..i {
+            wanted.push((monos[i].union(&monos[j]), 4))?;
+        }
+    }
+    let lifted = eighths(alloc, &wanted)?;
+    assert!(rt; lift(alloc, &sum, Phase::of(1 << 30))?.same(&lifted));
+    Ok(())
+}
+
 // By x1 + x2: in 1/4*x0, in 1/2*x0, and in x0 + x1.
 #[test]
 fn counts(rt: HostRuntime) -> Result<(), Fail> {
