@@ -1,0 +1,4 @@
+pub mod Parting
+pub mod Uniqueness
+pub mod Pieces
+pub mod Telling

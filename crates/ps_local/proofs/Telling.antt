@@ -1,0 +1,51 @@
+-- What a finding for what is left of two lists of items claims of the lists.
+use Rattle.std.proofs.Common.{◌≡◌, ℕ, sym, ◌∙◌, subst, List, [], length, inl, inr}
+use Rattle.ps_prim.specs.declared.prims.Primitive.{Primitive as Prim}
+use Rattle.ps_prim.specs.Maps.{AllWithin, SameMap, DiffersAt}
+use Rattle.ps_rules.specs.declared.steps.Step.{Step}
+use Rattle.ps_overlap.specs.Overlapping.{point}
+use Rattle.ps_overlap.proofs.LeastPoints.{point_length}
+use Rattle.ps_reach.specs.Runs.{run_of}
+use Rattle.ps_reach.specs.Overruns.{Overrun}
+use Rattle.ps_reach.specs.Findings.{Finding, yes, no, stuck, limit, IsJustified}
+use Rattle.ps_normal.specs.Comparing.{Settles, early, both}
+use Rattle.ps_cut.specs.Ends.{SharesEnds}
+use Rattle.ps_cut.proofs.Congruence.{map_reflexive}
+use Rattle.ps_cut.proofs.Cancelling.{not_both}
+use Rattle.ps_cut.proofs.Ends.{ends_differ, frontless_differs}
+use Rattle.ps_local.specs.declared.cut.Cut.{Cut}
+use Rattle.ps_local.specs.Cuts.{IsCut}
+use Rattle.ps_local.specs.Local.{Finds, nothing, something, DiffersBehind, Tells}
+use Rattle.ps_local.specs.LocalLaws.{FindingTells}
+use Rattle.ps_local.proofs.Pieces.{front_run, back_run, shares_ends, ends_within, no_front, middles_same, middles_tell}
+
+differs_behind : (n : ℕ) (I K : List (List Prim)) (c : Cut) (bits : List ℕ) → IsCut I K c → AllWithin n (run_of I) → DiffersAt n (run_of c.first) (run_of c.second) (point n bits) → DiffersBehind n I K c bits
+differs_behind n I K c bits h w d =
+    let e = ends_within n I K c h w in
+    let s = shares_ends n I K c h in
+    record {
+      middles = d;
+      somewhere = ends_differ n _ _ (front_run I c) _ _ (back_run I c) (point n bits) s e.0 e.1 (point_length n bits) d;
+      apart = λ m. not_both n _ _ _ d (middles_tell n I K c h w m (point n bits) (point_length n bits));
+      frontless = λ z. frontless_differs n _ _ _ _ (back_run I c) (point n bits) (subst (λ F. SharesEnds n (run_of I) (run_of K) F (run_of c.first) (run_of c.second) (back_run I c)) (no_front I c z) s) e.1 (point_length n bits) d;
+    }
+
+justified_tells : (n : ℕ) (I K : List (List Prim)) (c : Cut) (f : Finding) → IsCut I K c → AllWithin n (run_of I) → IsJustified n (run_of c.first) (run_of c.second) f → Tells n I K c f
+justified_tells n I K c yes h w j = middles_same n I K c h j
+justified_tells n I K c (no bits) h w j = differs_behind n I K c bits h w j
+justified_tells n I K c (stuck S) h w j = j
+justified_tells n I K c (limit e) h w j = j
+
+settled_justified : (n : ℕ) (A B : List Prim) {ss : List Step} {f : Finding} → Settles n A B ss f → IsJustified n A B f
+settled_justified n A B (early {e = e} p) = inl p.over
+settled_justified n A B (both d) = d.justified
+
+same_nothing : (n : ℕ) (M N : List (List Prim)) → M ≡ [] → N ≡ [] → SameMap n (run_of M) (run_of N)
+same_nothing n M N a b = subst (λ (L : List (List Prim)). SameMap n (run_of M) (run_of L)) (a ∙ sym b) (map_reflexive n (run_of M))
+
+found_tells : (n : ℕ) (I K : List (List Prim)) (c : Cut) {f : Finding} → IsCut I K c → AllWithin n (run_of I) → Finds n c.first c.second f → Tells n I K c f
+found_tells n I K c h w (nothing a b) = middles_same n I K c h (same_nothing n c.first c.second a b)
+found_tells n I K c h w (something {f = f} s d) = justified_tells n I K c f h w (settled_justified n (run_of c.first) (run_of c.second) d)
+
+pub finding_tells : FindingTells
+finding_tells n I K c f h w r = found_tells n I K c h w r
