@@ -1,5 +1,5 @@
 -- What a finding for what is left of two lists of items claims of the lists.
-use Rattle.std.proofs.Common.{◌≡◌, ℕ, sym, ◌∙◌, subst, List, [], length, inl, inr}
+use Rattle.std.proofs.Common.{◌≡◌, ℕ, refl, sym, ◌∙◌, subst, List, [], length, inl, inr}
 use Rattle.ps_prim.specs.declared.prims.Primitive.{Primitive as Prim}
 use Rattle.ps_prim.specs.Maps.{AllWithin, SameMap, DiffersAt}
 use Rattle.ps_rules.specs.declared.steps.Step.{Step}
@@ -8,14 +8,17 @@ use Rattle.ps_overlap.proofs.LeastPoints.{point_length}
 use Rattle.ps_reach.specs.Runs.{run_of}
 use Rattle.ps_reach.specs.Overruns.{Overrun}
 use Rattle.ps_reach.specs.Findings.{Finding, yes, no, stuck, limit, IsJustified}
-use Rattle.ps_normal.specs.Comparing.{Settles, early, both}
+use Rattle.ps_normal.specs.declared.decision.Decision.{Decision}
+use Rattle.ps_normal.specs.Comparing.{Settles, early, both, IsDecision}
+use Rattle.ps_normal.specs.Fillings.{CanRun}
 use Rattle.ps_cut.specs.Ends.{SharesEnds}
 use Rattle.ps_cut.proofs.Congruence.{map_reflexive}
 use Rattle.ps_cut.proofs.Cancelling.{not_both}
 use Rattle.ps_cut.proofs.Ends.{ends_differ, frontless_differs}
 use Rattle.ps_local.specs.declared.cut.Cut.{Cut}
+use Rattle.ps_local.specs.declared.local.Found.TheVariants.{Decided}
 use Rattle.ps_local.specs.Cuts.{IsCut}
-use Rattle.ps_local.specs.Local.{Finds, nothing, something, DiffersBehind, Tells}
+use Rattle.ps_local.specs.Local.{NothingLeft, Finds, nothing, something, IsLocal, DiffersBehind, Tells}
 use Rattle.ps_local.specs.LocalLaws.{FindingTells}
 use Rattle.ps_local.proofs.Pieces.{front_run, back_run, shares_ends, ends_within, no_front, middles_same, middles_tell}
 
@@ -44,8 +47,22 @@ same_nothing : (n : ℕ) (M N : List (List Prim)) → M ≡ [] → N ≡ [] → 
 same_nothing n M N a b = subst (λ (L : List (List Prim)). SameMap n (run_of M) (run_of L)) (a ∙ sym b) (map_reflexive n (run_of M))
 
 found_tells : (n : ℕ) (I K : List (List Prim)) (c : Cut) {f : Finding} → IsCut I K c → AllWithin n (run_of I) → Finds n c.first c.second f → Tells n I K c f
-found_tells n I K c h w (nothing a b) = middles_same n I K c h (same_nothing n c.first c.second a b)
+found_tells n I K c h w (nothing e) = middles_same n I K c h (same_nothing n c.first c.second e.0 e.1)
 found_tells n I K c h w (something {f = f} s d) = justified_tells n I K c f h w (settled_justified n (run_of c.first) (run_of c.second) d)
 
 pub finding_tells : FindingTells
 finding_tells n I K c f h w r = found_tells n I K c h w r
+
+-- ---- what was asked
+pub asked : (n : ℕ) (I K M N : List (List Prim)) (c : Cut) (d : Decision) → IsCut I K c → ¬ (NothingLeft c.first c.second) → M ≡ c.first → N ≡ c.second → IsDecision n M N d
+    → IsLocal n I K (record { front = c.front; back = c.back; found = Decided d })
+asked n I K M N c d h s e f r = record {
+  cut = c;
+  is_cut = h;
+  front = refl;
+  back = refl;
+  found = (s, subst (λ (B : List (List Prim)). IsDecision n c.first B d) f (subst (λ (A : List (List Prim)). IsDecision n A N d) e r));
+}
+
+pub can_ask : (n : ℕ) (M M' : List (List Prim)) → M' ≡ M → CanRun n M → CanRun n M'
+can_ask n M M' e r = subst (CanRun n) (sym e) r

@@ -1,5 +1,5 @@
 -- What is found of two lists of items by what is left of them, and what that claims.
-use Rattle.std.specs.Prelude.{ℕ, ◌≡◌, ◌≢◌, ◌⊎◌, List, [], length}
+use Rattle.std.specs.Prelude.{ℕ, ◌≡◌, List, [], length}
 use Rattle.ps_prim.specs.declared.prims.Primitive.{Primitive as Prim}
 use Rattle.ps_prim.specs.Amplitudes.{Truths}
 use Rattle.ps_prim.specs.Maps.{SameMap, DiffersAt}
@@ -14,19 +14,19 @@ use Rattle.ps_local.specs.declared.local.Found.{Found}
 use Rattle.ps_local.specs.declared.local.Found.TheVariants.{Nothing, Decided}
 use Rattle.ps_local.specs.Cuts.{IsCut}
 
--- one of the lists has an item
-abbrev pub SomeLeft : List (List Prim) → List (List Prim) → Type 0
-SomeLeft M N = (M ≢ []) ⊎ (N ≢ [])
+-- neither list has an item
+abbrev pub NothingLeft : List (List Prim) → List (List Prim) → Type 0
+NothingLeft M N = (M ≡ []) × (N ≡ [])
 
 -- where nothing is left of either list they are one map; else what is left of them comes to this
 pub data Finds (n : ℕ) (M N : List (List Prim)) : Finding → Type 0 where
-  nothing : M ≡ [] → N ≡ [] → Finds n M N yes
-  something : {steps : List Step} {f : Finding} → SomeLeft M N → Settles n (run_of M) (run_of N) steps f → Finds n M N f
+  nothing : NothingLeft M N → Finds n M N yes
+  something : {steps : List Step} {f : Finding} → ¬ (NothingLeft M N) → Settles n (run_of M) (run_of N) steps f → Finds n M N f
 
 -- the same of what was computed
 abbrev pub IsFound : ℕ → List (List Prim) → List (List Prim) → Found → Type 0
-IsFound n M N Nothing = (M ≡ []) × (N ≡ [])
-IsFound n M N (Decided d) = SomeLeft M N × IsDecision n M N d
+IsFound n M N Nothing = NothingLeft M N
+IsFound n M N (Decided d) = (¬ (NothingLeft M N)) × IsDecision n M N d
 
 -- the lists are cut, and what is left of them was compared
 pub record IsLocal (n : ℕ) (I K : List (List Prim)) (l : Local) : Type 0 where

@@ -1,15 +1,23 @@
 //! Whether two lists of items are one linear map, asked of what is left of them.
 
-ghost use Rattle.std.specs.Prelude.{◌≤◌, IfOk};
+ghost use Rattle.std.specs.Prelude.{◌≤◌, ◌↔◌, IsTrue, IfOk};
 ghost use Rattle.ps_normal.specs.Fillings.{CanRun};
-ghost use Rattle.ps_local.specs.Local.{IsLocal};
+ghost use Rattle.ps_local.specs.Local.{NothingLeft, IsLocal};
 
+use super::cut::Cut;
 use super::local::{Found, Local};
 use super::middles::cut_of;
 use ps_normal::decide;
 use ps_reach::Items;
 use std::alloc::{AllocError, Global};
 use std::sync::Arc;
+
+// Whether neither list has an item between front and back.
+fn nothing_left(cut: &Cut) -> bool
+    ensures { IsTrue result ↔ NothingLeft cut.now.first cut.now.second }
+{
+    cut.first.as_slice().is_empty() && cut.second.as_slice().is_empty()
+}
 
 /// Cuts off what two lists of items on `n` qubits have in common in front, and then at the back, and decides
 /// whether what is left of them is one linear map. Where nothing is left of either, that is all.
@@ -30,7 +38,7 @@ pub fn decide_local(
     let cut = cut_of(alloc, first, second)?;
     let front = cut.front;
     let back = cut.back;
-    if cut.first.as_slice().is_empty() && cut.second.as_slice().is_empty() {
+    if nothing_left(&cut) {
         return Ok(Local {
             front,
             back,
