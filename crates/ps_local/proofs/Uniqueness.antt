@@ -1,11 +1,13 @@
 -- Two lists of items have one cut.
-use Rattle.std.proofs.Common.{◌≡◌, ℕ, ◌+◌, ◌-◌, ◌<◌, ◌≤◌, refl, ap, ap₂, sym, ◌∙◌, arith, List, [], length, get_or, take, drop, ◌⊎◌, inl, inr}
-use Rattle.std.proofs.lemmas.List.{get_or-take, get_or-drop}
+use Rattle.std.proofs.Common.{◌≡◌, ℕ, ◌+◌, ◌-◌, ◌<◌, ◌≤◌, ap, ap₂, sym, ◌∙◌, arith, List, [], length, get_or, take, drop, reverse, subst, inl, inr}
+use Rattle.std.proofs.lemmas.List.{get_or-take, get_or-drop, reverse-reverse}
 use Rattle.std.proofs.lemmas.Bool.{cases_lt}
 use Rattle.ps_prim.specs.declared.prims.Primitive.{Primitive as Prim}
 use Rattle.ps_local.specs.declared.cut.Cut.{Cut}
-use Rattle.ps_local.specs.Cuts.{IsFront, IsBack, IsCut, middle}
+use Rattle.ps_local.specs.Cuts.{IsFront, IsBack, from_back}
+use Rattle.ps_local.specs.Exchanges.{IsSplit}
 use Rattle.ps_local.specs.LocalLaws.{CutOnce}
+use Rattle.ps_local.proofs.Fronting.{fronts_once}
 
 -- the item at k stands in both fronts
 same_in_front : (I K : List (List Prim)) (f k : ℕ) → k < f → take f I ≡ take f K → get_or I k [] ≡ get_or K k []
@@ -46,11 +48,33 @@ equal_cuts c d f b x y =
     ap (λ v. record c { front = v }) f ∙ ap (λ v. record c { front = d.front; back = v }) b
     ∙ ap (λ v. record c { front = d.front; back = d.back; first = v }) x ∙ ap (λ v. record d { second = v }) y
 
+-- one front up to exchanges
+record EqualSplits (p q : ℕ) (M M' N N' : List (List Prim)) : Type 0 where
+  count : p ≡ q
+  first : M ≡ M'
+  second : N ≡ N'
+
+split_once : (I K M M' N N' : List (List Prim)) (p q : ℕ) → IsSplit I K p M N → IsSplit I K q M' N' → EqualSplits p q M M' N N'
+split_once I K M M' N N' p q a b = let e = fronts_once a.fronts b.fronts in record { count = a.counted ∙ ap length e.front ∙ sym b.counted; first = e.first; second = e.second }
+
+split_at : (I K M N : List (List Prim)) (p : ℕ) {f g : ℕ} → f ≡ g → IsSplit (drop f I) (drop f K) p M N → IsSplit (drop g I) (drop g K) p M N
+split_at I K M N p e s = subst (λ k. IsSplit (drop k I) (drop k K) p M N) e s
+
+back_at : {M M' N N' : List (List Prim)} (back : ℕ) → M ≡ M' → N ≡ N' → IsBack M N 0 back → IsBack M' N' 0 back
+back_at {M} {M'} {N} back e f b = subst (λ X. IsBack M' X 0 back) f (subst (λ X. IsBack X N 0 back) e b)
+
+back_split_at : {M M' N N' X Y : List (List Prim)} {f g : ℕ} (p : ℕ) → M ≡ M' → N ≡ N' → f ≡ g → IsSplit (from_back M f) (from_back N f) p X Y → IsSplit (from_back M' g) (from_back N' g) p X Y
+back_split_at {M} {M'} {N} {N'} {X} {Y} {f} p e h i s =
+    subst (λ k. IsSplit (from_back M' k) (from_back N' k) p X Y) i (subst (λ L. IsSplit (from_back M' f) (from_back L f) p X Y) h (subst (λ L. IsSplit (from_back L f) (from_back N f) p X Y) e s))
+
+unreversed : (A B : List (List Prim)) → reverse A ≡ reverse B → A ≡ B
+unreversed A B e = sym (reverse-reverse A) ∙ ap (λ (L : List (List Prim)). reverse L) e ∙ reverse-reverse B
+
 pub cut_once : CutOnce
 cut_once I K c d a b =
-    let f : c.front ≡ d.front = front_once I K c.front d.front a.before b.before in
-    let k : c.back ≡ d.back = back_once I K d.front c.back d.back (subst_front c.back f a.behind) b.behind in
-    equal_cuts c d f k (a.first ∙ ap₂ (middle I) f k ∙ sym b.first) (a.second ∙ ap₂ (middle K) f k ∙ sym b.second)
-  where
-    subst_front : (back : ℕ) {g h : ℕ} → g ≡ h → IsBack I K g back → IsBack I K h back
-    subst_front back e r = rw (← e) r
+    let f : a.equal_front ≡ b.equal_front = front_once I K a.equal_front b.equal_front a.is_front b.is_front in
+    let t = split_once (drop b.equal_front I) (drop b.equal_front K) a.first_left b.first_left a.second_left b.second_left a.moved_front b.moved_front (split_at I K _ _ a.moved_front f a.front_split) b.front_split in
+    let k : a.equal_back ≡ b.equal_back = back_once b.first_left b.second_left 0 a.equal_back b.equal_back (back_at a.equal_back t.first t.second a.is_back) b.is_back in
+    let u = split_once (from_back b.first_left b.equal_back) (from_back b.second_left b.equal_back) (reverse c.first) (reverse d.first) (reverse c.second) (reverse d.second) a.moved_back b.moved_back
+    (back_split_at a.moved_back t.first t.second k a.back_split) b.back_split in
+    equal_cuts c d (a.front ∙ ap₂ (λ x y. x + y) f t.count ∙ sym b.front) (a.back ∙ ap₂ (λ x y. x + y) k u.count ∙ sym b.back) (unreversed c.first d.first u.first) (unreversed c.second d.second u.second)

@@ -6,8 +6,9 @@ use Rattle.ps_reach.specs.Runs.{run_of}
 use Rattle.ps_reach.specs.Findings.{Finding}
 use Rattle.ps_normal.specs.Fillings.{CanRun}
 use Rattle.ps_local.specs.declared.cut.Cut.{Cut}
+use Rattle.ps_local.specs.declared.local.Found.{Found}
 use Rattle.ps_local.specs.Cuts.{IsCut}
-use Rattle.ps_local.specs.Local.{Finds, Tells}
+use Rattle.ps_local.specs.Local.{IsFound, found_as, Finds, Tells}
 
 -- two lists have one cut
 abbrev pub CutOnce : Type 0
@@ -23,6 +24,10 @@ MiddlesSame = (n : ℕ) (I K : List (List Prim)) (c : Cut) → IsCut I K c → S
 
 abbrev pub MiddlesTell : Type 0
 MiddlesTell = (n : ℕ) (I K : List (List Prim)) (c : Cut) → IsCut I K c → AllWithin n (run_of I) → SameMap n (run_of I) (run_of K) → SameMap n (run_of c.first) (run_of c.second)
+
+-- what was computed of what is left is what is found of it
+abbrev pub FoundFinds : Type 0
+FoundFinds = (n : ℕ) (M N : List (List Prim)) (f : Found) → IsFound n M N f → Finds n M N (found_as f)
 
 -- what is found of what is left tells of the lists
 abbrev pub FindingTells : Type 0

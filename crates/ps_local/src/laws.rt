@@ -1,7 +1,7 @@
 //! What the middles of two lists of items tell of the whole. The function does nothing, and its clauses are
 //! laws with their proofs.
 
-ghost use Rattle.ps_local.specs.LocalLaws.{CutOnce, MiddlesRun, MiddlesSame, MiddlesTell, FindingTells};
+ghost use Rattle.ps_local.specs.LocalLaws.{CutOnce, MiddlesRun, MiddlesSame, MiddlesTell, FoundFinds, FindingTells};
 
 /// There is one cut of two lists; the lists are one map exactly where what is left of them is, and what is
 /// found of that tells of the lists.
@@ -10,5 +10,6 @@ pub fn local_law()
     ensures run { MiddlesRun }
     ensures same { MiddlesSame }
     ensures tell { MiddlesTell }
+    ensures found { FoundFinds }
     ensures finding { FindingTells }
 {}

@@ -4,10 +4,13 @@
 pub mod cut;
 mod ends;
 mod equality;
+pub mod fronts;
 pub mod laws;
 pub mod local;
 pub mod middles;
+mod qubits;
 pub mod questions;
+mod wires;
 
 pub use cut::Cut;
 pub use local::{Found, Local};

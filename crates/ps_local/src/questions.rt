@@ -8,7 +8,7 @@ use super::cut::Cut;
 use super::local::{Found, Local};
 use super::middles::cut_of;
 use ps_normal::decide;
-use ps_reach::Items;
+use ps_reach::{Items, Mode};
 use std::alloc::{AllocError, Global};
 use std::sync::Arc;
 
@@ -47,6 +47,6 @@ pub fn decide_local(
     }
     let first = Arc::new(alloc, cut.first)?;
     let second = Arc::new(alloc, cut.second)?;
-    let found = Found::Decided(decide(alloc, &first, &second, n)?);
+    let found = Found::Decided(decide(alloc, &first, &second, n, Mode::Exact)?);
     Ok(Local { front, back, found })
 }
