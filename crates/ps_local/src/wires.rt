@@ -66,8 +66,8 @@ impl Wires {
         place
     }
 
-    /// The place of the first item that has come out of nothing and has a qubit of the mask, or the length
-    /// of the list.
+    /// The place of the first item that has not come out and has a qubit of the mask, or the length of the
+    /// list.
     pub fn first_of(&mut self, mask: u64) -> usize
         ensures qubits { self.new.qubits.items ≡ self.old.qubits.items }
         ensures out { self.new.out.items ≡ self.old.out.items }

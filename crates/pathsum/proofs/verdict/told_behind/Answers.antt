@@ -5,4 +5,4 @@ pub returns-in-No : goal.returns-in-No
 returns-in-No c = behind_no c.args.qubits c.args.front c.args.verdict c.in-No.at _ c.in-No.is c.no_behind.ensures
 
 pub returns-in_default : goal.returns-in_default
-returns-in_default c = behind_other c.args.qubits c.args.front c.args.verdict _ ? c.told.ensures
+returns-in_default c = behind_other c.args.qubits c.args.front c.args.verdict _ c.in_default.not-No c.told.ensures
