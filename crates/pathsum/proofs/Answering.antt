@@ -322,7 +322,17 @@ judges_one c bytes x y (judged a b d s n A B q t w) (judged a' b' d' s' n' A' B'
     works_one c n' A' B' d' x y (works_moved c n n' A B A' B' d d' x (both_n e) (both_first e) (both_second e) o.document w) w'
 
 -- ---- words
--- the words of different commands differ in their first word, or in how many there are
+-- the first letter of the second word
+abbrev second_letter : List (List ℕ) → ℕ
+second_letter [] = 0
+second_letter (a ∷ []) = 0
+second_letter (a ∷ [] ∷ ws) = 0
+second_letter (a ∷ (x ∷ xs) ∷ ws) = x
+
+other_letter : 112 ≡ 108 → ⊥
+other_letter e = omega arith
+
+-- the words of different commands differ in their first word, in how many there are, or in the second word
 command_one : (words : List (List ℕ)) (c d : Command) → IsCommand c words → IsCommand d words → c ≡ d
 command_one words c d e f = told c d (sym e ∙ f)
   where
@@ -334,11 +344,11 @@ command_one words c d e f = told c d (sym e ∙ f)
     told command.Same command.Replay e = cc
     told command.SamePhase command.Same e = cc
     told command.SamePhase command.SamePhase e = refl
-    told command.SamePhase command.SameLocal e = cc
+    told command.SamePhase command.SameLocal e = absurd (other_letter (ap second_letter e))
     told command.SamePhase command.Prove e = cc
     told command.SamePhase command.Replay e = cc
     told command.SameLocal command.Same e = cc
-    told command.SameLocal command.SamePhase e = cc
+    told command.SameLocal command.SamePhase e = absurd (other_letter (ap second_letter (sym e)))
     told command.SameLocal command.SameLocal e = refl
     told command.SameLocal command.Prove e = cc
     told command.SameLocal command.Replay e = cc
