@@ -329,8 +329,11 @@ second_letter (a ∷ []) = 0
 second_letter (a ∷ [] ∷ ws) = 0
 second_letter (a ∷ (x ∷ xs) ∷ ws) = x
 
-other_letter : 112 ≡ 108 → ⊥
-other_letter e = omega arith
+other_letter : (x y : ℕ) → x ≡ 112 → y ≡ 108 → x ≡ y → ⊥
+other_letter x y a b e = omega arith
+
+phase_or_local : words_of command.SamePhase ≡ words_of command.SameLocal → ⊥
+phase_or_local e = other_letter (second_letter (words_of command.SamePhase)) (second_letter (words_of command.SameLocal)) refl refl (ap second_letter e)
 
 -- the words of different commands differ in their first word, in how many there are, or in the second word
 command_one : (words : List (List ℕ)) (c d : Command) → IsCommand c words → IsCommand d words → c ≡ d
@@ -344,11 +347,11 @@ command_one words c d e f = told c d (sym e ∙ f)
     told command.Same command.Replay e = cc
     told command.SamePhase command.Same e = cc
     told command.SamePhase command.SamePhase e = refl
-    told command.SamePhase command.SameLocal e = absurd (other_letter (ap second_letter e))
+    told command.SamePhase command.SameLocal e = absurd (phase_or_local e)
     told command.SamePhase command.Prove e = cc
     told command.SamePhase command.Replay e = cc
     told command.SameLocal command.Same e = cc
-    told command.SameLocal command.SamePhase e = absurd (other_letter (ap second_letter (sym e)))
+    told command.SameLocal command.SamePhase e = absurd (phase_or_local (sym e))
     told command.SameLocal command.SameLocal e = refl
     told command.SameLocal command.Prove e = cc
     told command.SameLocal command.Replay e = cc
