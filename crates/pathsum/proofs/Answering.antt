@@ -1,5 +1,5 @@
 -- There is one answer to an input.
-use Rattle.std.proofs.Common.{◌≡◌, ◌≢◌, ℕ, refl, ap, sym, ◌∙◌, subst, arith, ◌+◌, ◌<◌, ◌≤◌, List, ◌++◌, length, map, codes, Option, Some, None, Result, Ok, Err}
+use Rattle.std.proofs.Common.{◌≡◌, ◌≢◌, ℕ, refl, ap, sym, ◌∙◌, subst, arith, ◌+◌, ◌<◌, ◌≤◌, List, [], ◌∷◌, ◌++◌, length, map, codes, decimal, Option, Some, None, Result, Ok, Err}
 use Rattle.ps_prim.specs.declared.prims.Primitive.{Primitive as Prim}
 use Rattle.ps_sum.specs.declared.sums.PathSum.{PathSum}
 use Rattle.ps_sum.specs.declared.faults.Passed.{Passed as Limit}
@@ -11,7 +11,7 @@ use Rattle.ps_reach.specs.declared.mode.Mode.TheVariants.{Exact, Phase}
 use Rattle.ps_reach.specs.Overruns.{Overrun}
 use Rattle.ps_reach.specs.Runs.{run_of}
 use Rattle.ps_reach.specs.Fillings.{Outcome, Fills, kept, passed}
-use Rattle.ps_reach.specs.Findings.{Finding, yes, limit, Compares, first_limit}
+use Rattle.ps_reach.specs.Findings.{Finding, yes, no, stuck, limit, Compares, first_limit}
 use Rattle.ps_reach.proofs.FillsOnce.{fills_only}
 use Rattle.ps_reach.proofs.Justifying.{compares_only}
 use Rattle.ps_normal.specs.Comparing.{Decides, PassesFirst, Settles, early, both as compared}
@@ -28,7 +28,7 @@ use Rattle.qasm_expand.specs.declared.fault.ReadFault.TheVariants.{Fault}
 use Rattle.qasm_expand.specs.Circuits.{CircuitOf}
 use Rattle.qasm_lex.specs.Places.{IsPlace}
 use Rattle.pathsum.specs.declared.answer.Answer.{Answer}
-use Rattle.pathsum.specs.declared.answer.Answer.TheVariants.{Yes, Proof, YesPhase, No, NoPair, Stuck, Passed, Accepted, Rejected, Left, Refused, Words, Read, TooLong, Memory}
+use Rattle.pathsum.specs.declared.answer.Answer.TheVariants.{Yes, Proof, YesPhase, No, NoPair, NoBehind, Stuck, Passed, Accepted, Rejected, Left, Refused, Words, Read, TooLong, Memory}
 use Rattle.pathsum.specs.declared.input.Input.{Input}
 use Rattle.pathsum.specs.declared.commands.Command.{Command}
 use Rattle.pathsum.specs.declared.commands.Command.TheVariants as command
@@ -39,6 +39,10 @@ use Rattle.pathsum.specs.Inputs.{bit_code}
 use Rattle.pathsum.specs.Splits.{IsParted}
 use Rattle.pathsum.specs.Texts.{IsReadAs, Given, both, refuses, TextsAre, first_fault, second_fault, widths, circuits}
 use Rattle.pathsum.specs.Verdicts.{Says, says_yes, says_yes_phase, says_no, says_no_pair, says_stuck, says_passed, IsVerdict}
+use Rattle.ps_local.specs.declared.cut.Cut.{Cut}
+use Rattle.ps_local.specs.Local.{Finds, nothing, something}
+use Rattle.ps_local.proofs.Uniqueness.{cut_once}
+use Rattle.pathsum.specs.Local.{SaysBehind, plainly, behind, IsLocalVerdict}
 use Rattle.pathsum.specs.Proofs.{IsDerivation, Proves, derived, other, Echoes, accepted, rejected, left, IsReplay, Works}
 use Rattle.pathsum.specs.Ended.{Judges, lacking, refused, judged, Answers, IsOfInput, Agree, IsOneAnswer}
 use Rattle.pathsum.proofs.Splitting.{parts_once, parts_or_lacks}
@@ -176,11 +180,40 @@ echoes_one r s a b e (left {S = S}) (left {S = T}) = equal_agree (Left S) (Left 
 replay_one : (n : ℕ) (A B : List Prim) (d : List ℕ) (a b : Answer) → IsReplay n A B d a → IsReplay n A B d b → Agree a b
 replay_one n A B d a b x y = echoes_one x.replayed y.replayed a b (replays_once x.replays y.replays) x.told y.told
 
-works_one : (c : Command) (n : ℕ) (A B : List Prim) (d : List ℕ) (a b : Answer) → Works c n A B d a → Works c n A B d b → Agree a b
-works_one command.Same n A B d a b x y = verdict_one Exact n A B a b x y
-works_one command.SamePhase n A B d a b x y = verdict_one Phase n A B a b x y
-works_one command.Prove n A B d a b x y = proves_one n A B a b x y
-works_one command.Replay n A B d a b x y = replay_one n A B d a b x y
+-- ---- edits
+behind_agree : (n front : ℕ) (i k : Input) → i.qubits ≡ n → k.qubits ≡ n → i.at ≡ k.at → Agree (NoBehind i front) (NoBehind k front)
+behind_agree n front i k e f s = record {
+  status = refl;
+  text = ap (λ q. codes "no " ++ map bit_code (point q i.at) ++ codes " behind " ++ decimal front ++ codes "\n") (e ∙ sym f) ∙ ap (λ b. codes "no " ++ map bit_code (point k.qubits b) ++ codes " behind " ++ decimal front ++ codes "\n") s;
+}
+
+no_front : {front : ℕ} → front ≡ 0 → 0 < front → ⊥
+no_front e h = omega arith
+
+behind_same : {n front : ℕ} {f : Finding} {a b : Answer} → SaysBehind n front f a → SaysBehind n front f b → Agree a b
+behind_same (plainly p s) (plainly q t) = says_same s t
+behind_same (plainly p s) (behind h u v) = absurd (no_front p h)
+behind_same (behind h u v) (plainly p s) = absurd (no_front p h)
+behind_same {n} {front} (behind {input = i} h u v) (behind {input = k} h' u' v') = behind_agree n front i k u u' (sym v ∙ v')
+
+finds_one : (n : ℕ) (M N : List (List Prim)) {f g : Finding} → Finds n M N f → Finds n M N g → f ≡ g
+finds_one n M N (nothing e) (nothing h) = refl
+finds_one n M N (nothing e) (something s d) = absurd (s e)
+finds_one n M N (something s d) (nothing e) = absurd (s e)
+finds_one n M N (something s d) (something t k) = settled_one Exact n (run_of M) (run_of N) d k
+
+local_one : (n : ℕ) (I K : List (List Prim)) (a b : Answer) → IsLocalVerdict n I K a → IsLocalVerdict n I K b → Agree a b
+local_one n I K a b x y =
+    let c = cut_once I K x.cut y.cut x.is_cut y.is_cut in
+    let f = finds_one n y.cut.first y.cut.second (subst (λ (k : Cut). Finds n k.first k.second x.finding) c x.found) y.found in
+    behind_same (subst (λ g. SaysBehind n y.cut.front g a) f (subst (λ (k : Cut). SaysBehind n k.front x.finding a) c x.told)) y.told
+
+works_one : (c : Command) (n : ℕ) (A B : List (List Prim)) (d : List ℕ) (a b : Answer) → Works c n A B d a → Works c n A B d b → Agree a b
+works_one command.Same n A B d a b x y = verdict_one Exact n (run_of A) (run_of B) a b x y
+works_one command.SamePhase n A B d a b x y = verdict_one Phase n (run_of A) (run_of B) a b x y
+works_one command.SameLocal n A B d a b x y = local_one n A B a b x y
+works_one command.Prove n A B d a b x y = proves_one n (run_of A) (run_of B) a b x y
+works_one command.Replay n A B d a b x y = replay_one n (run_of A) (run_of B) d a b x y
 
 -- ---- two texts are read as one thing
 abbrev ok_of : CircuitOf → Result CircuitOf ReadFault
@@ -207,8 +240,8 @@ fault_given s {n} {m} {i} {k} e = ap (λ (x : FaultName). refuses (Text x) (s + 
 first_given : {n m : FaultName} {i k : ℕ} → err_of n i ≡ err_of m k → refuses (Text n) i ≡ refuses (Text m) k
 first_given {n} {m} {i} {k} e = ap (λ (x : FaultName). refuses (Text x) i) (same_name e) ∙ ap (λ (x : ℕ). refuses (Text m) x) (same_at e)
 
-both_given : {c d c' d' : CircuitOf} → c ≡ c' → d ≡ d' → both c.qubits (run_of c.items) (run_of d.items) ≡ both c'.qubits (run_of c'.items) (run_of d'.items)
-both_given {c} {d} {c'} {d'} e f = ap (λ (x : CircuitOf). both x.qubits (run_of x.items) (run_of d.items)) e ∙ ap (λ (x : CircuitOf). both c'.qubits (run_of c'.items) (run_of x.items)) f
+both_given : {c d c' d' : CircuitOf} → c ≡ c' → d ≡ d' → both c.qubits c.items d.items ≡ both c'.qubits c'.items d'.items
+both_given {c} {d} {c'} {d'} e f = ap (λ (x : CircuitOf). both x.qubits x.items d.items) e ∙ ap (λ (x : CircuitOf). both c'.qubits c'.items x.items) f
 
 differ_or_agree : {c d c' d' : CircuitOf} → c ≡ c' → d ≡ d' → c.qubits ≢ d.qubits → c'.qubits ≡ d'.qubits → ⊥
 differ_or_agree e f h k = h (ap (λ (x : CircuitOf). x.qubits) e ∙ k ∙ sym (ap (λ (x : CircuitOf). x.qubits) f))
@@ -243,7 +276,7 @@ placed_agree bytes why why' at at' line column line' column' e f p q =
     let o = place_once bytes at' line column line' column' (subst (λ (i : ℕ). IsPlace bytes i line column) f p) q in
     refused_agree why why' line column line' column' e o.line_is o.column_is
 
-both_not_refuses : {n : ℕ} {A B : List Prim} {w : Refusal} {i : ℕ} → both n A B ≡ refuses w i → ⊥
+both_not_refuses : {n : ℕ} {A B : List (List Prim)} {w : Refusal} {i : ℕ} → both n A B ≡ refuses w i → ⊥
 both_not_refuses e = cc
 
 refuses_why : {w v : Refusal} {i k : ℕ} → refuses w i ≡ refuses v k → w ≡ v
@@ -252,13 +285,13 @@ refuses_why e = cc
 refuses_at : {w v : Refusal} {i k : ℕ} → refuses w i ≡ refuses v k → i ≡ k
 refuses_at e = cc
 
-both_n : {n m : ℕ} {A B C D : List Prim} → both n A B ≡ both m C D → n ≡ m
+both_n : {n m : ℕ} {A B C D : List (List Prim)} → both n A B ≡ both m C D → n ≡ m
 both_n e = cc
 
-both_first : {n m : ℕ} {A B C D : List Prim} → both n A B ≡ both m C D → A ≡ C
+both_first : {n m : ℕ} {A B C D : List (List Prim)} → both n A B ≡ both m C D → A ≡ C
 both_first e = cc
 
-both_second : {n m : ℕ} {A B C D : List Prim} → both n A B ≡ both m C D → B ≡ D
+both_second : {n m : ℕ} {A B C D : List (List Prim)} → both n A B ≡ both m C D → B ≡ D
 both_second e = cc
 
 -- two ways to part the input and to read the texts
@@ -267,8 +300,8 @@ given_one c bytes a b d a' b' d' s s' g h p q x y =
     let o = parts_once c bytes a b d s a' b' d' s' p q in
     texts_one a' b' s' g h (subst (λ (k : ℕ). TextsAre a' b' k g) o.start (subst (λ (k : List ℕ). TextsAre a' k s g) o.second (subst (λ (k : List ℕ). TextsAre k b s g) o.first x))) y
 
-works_moved : (c : Command) (n m : ℕ) (A B C D : List Prim) (d d' : List ℕ) (a : Answer) → n ≡ m → A ≡ C → B ≡ D → d ≡ d' → Works c n A B d a → Works c m C D d' a
-works_moved c n m A B C D d d' a e f g h w = subst (λ (k : List ℕ). Works c m C D k a) h (subst (λ (k : List Prim). Works c m C k d a) g (subst (λ (k : List Prim). Works c m k B d a) f (subst (λ (k : ℕ). Works c k A B d a) e w)))
+works_moved : (c : Command) (n m : ℕ) (A B C D : List (List Prim)) (d d' : List ℕ) (a : Answer) → n ≡ m → A ≡ C → B ≡ D → d ≡ d' → Works c n A B d a → Works c m C D d' a
+works_moved c n m A B C D d d' a e f g h w = subst (λ (k : List ℕ). Works c m C D k a) h (subst (λ (k : List (List Prim)). Works c m C k d a) g (subst (λ (k : List (List Prim)). Works c m k B d a) f (subst (λ (k : ℕ). Works c k A B d a) e w)))
 
 judges_one : (c : Command) (bytes : List ℕ) (x y : Answer) → Judges c bytes x → Judges c bytes y → Agree x y
 judges_one c bytes x y (lacking {line = l} {column = k} h p) (lacking {line = l'} {column = k'} h' p') = placed_agree bytes Separator Separator (length bytes) (length bytes) l k l' k' refl refl p p'
@@ -289,25 +322,47 @@ judges_one c bytes x y (judged a b d s n A B q t w) (judged a' b' d' s' n' A' B'
     works_one c n' A' B' d' x y (works_moved c n n' A B A' B' d d' x (both_n e) (both_first e) (both_second e) o.document w) w'
 
 -- ---- words
--- the words of different commands differ in their first word, or in how many there are
+-- the first letter of the second word
+abbrev second_letter : List (List ℕ) → ℕ
+second_letter [] = 0
+second_letter (a ∷ []) = 0
+second_letter (a ∷ [] ∷ ws) = 0
+second_letter (a ∷ (x ∷ xs) ∷ ws) = x
+
+other_letter : (x y : ℕ) → x ≡ 112 → y ≡ 108 → x ≡ y → ⊥
+other_letter x y a b e = omega arith
+
+phase_or_local : words_of command.SamePhase ≡ words_of command.SameLocal → ⊥
+phase_or_local e = other_letter (second_letter (words_of command.SamePhase)) (second_letter (words_of command.SameLocal)) refl refl (ap second_letter e)
+
+-- the words of different commands differ in their first word, in how many there are, or in the second word
 command_one : (words : List (List ℕ)) (c d : Command) → IsCommand c words → IsCommand d words → c ≡ d
 command_one words c d e f = told c d (sym e ∙ f)
   where
     told : (c d : Command) → words_of c ≡ words_of d → c ≡ d
     told command.Same command.Same e = refl
     told command.Same command.SamePhase e = cc
+    told command.Same command.SameLocal e = cc
     told command.Same command.Prove e = cc
     told command.Same command.Replay e = cc
     told command.SamePhase command.Same e = cc
     told command.SamePhase command.SamePhase e = refl
+    told command.SamePhase command.SameLocal e = absurd (phase_or_local e)
     told command.SamePhase command.Prove e = cc
     told command.SamePhase command.Replay e = cc
+    told command.SameLocal command.Same e = cc
+    told command.SameLocal command.SamePhase e = absurd (phase_or_local (sym e))
+    told command.SameLocal command.SameLocal e = refl
+    told command.SameLocal command.Prove e = cc
+    told command.SameLocal command.Replay e = cc
     told command.Prove command.Same e = cc
     told command.Prove command.SamePhase e = cc
+    told command.Prove command.SameLocal e = cc
     told command.Prove command.Prove e = refl
     told command.Prove command.Replay e = cc
     told command.Replay command.Same e = cc
     told command.Replay command.SamePhase e = cc
+    told command.Replay command.SameLocal e = cc
     told command.Replay command.Prove e = cc
     told command.Replay command.Replay e = refl
 
@@ -324,6 +379,7 @@ kind_of : (words : List (List ℕ)) (bytes : List ℕ) (s s' : ℕ) (a : Answer)
 kind_of words bytes s s' Yes d i = read_kind words bytes d.command Yes d.is d.deserves
 kind_of words bytes s s' (Proof k) d i = read_kind words bytes d.command (Proof k) d.is d.deserves
 kind_of words bytes s s' (YesPhase p) d i = read_kind words bytes d.command (YesPhase p) d.is d.deserves
+kind_of words bytes s s' (NoBehind j k) d i = read_kind words bytes d.command (NoBehind j k) d.is d.deserves
 kind_of words bytes s s' (NoPair j k) d i = read_kind words bytes d.command (NoPair j k) d.is d.deserves
 kind_of words bytes s s' (No k) d i = read_kind words bytes d.command (No k) d.is d.deserves
 kind_of words bytes s s' (Stuck k) d i = read_kind words bytes d.command (Stuck k) d.is d.deserves

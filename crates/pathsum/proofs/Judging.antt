@@ -7,7 +7,6 @@ use Rattle.std.specs.Io.KnownBytes.{prepend_known, IsAtEnd}
 use Rattle.std.specs.Prelude.{IfSome}
 use Rattle.ps_prim.specs.declared.prims.Primitive.{Primitive as Prim}
 use Rattle.ps_reach.specs.Findings.{Finding}
-use Rattle.ps_reach.specs.Runs.{run_of}
 use Rattle.ps_replay.specs.declared.replayed.Replayed.{Replayed}
 use Rattle.qasm_lex.specs.Places.{IsPlace}
 use Rattle.qasm_expand.specs.declared.fault.FaultName.{FaultName}
@@ -19,7 +18,7 @@ use Rattle.pathsum.specs.declared.pair.Pair.{Pair}
 use Rattle.pathsum.specs.declared.pair.TwoTexts.{TwoTexts}
 use Rattle.pathsum.specs.declared.pair.TwoTexts.TheVariants.{Both, Refuses}
 use Rattle.pathsum.specs.declared.answer.Answer.{Answer}
-use Rattle.pathsum.specs.declared.answer.Answer.TheVariants.{Yes, Proof, YesPhase, No, NoPair, Stuck, Passed, Accepted, Rejected, Left, Refused, Words, Read, TooLong, Memory}
+use Rattle.pathsum.specs.declared.answer.Answer.TheVariants.{Yes, Proof, YesPhase, No, NoPair, NoBehind, Stuck, Passed, Accepted, Rejected, Left, Refused, Words, Read, TooLong, Memory}
 use Rattle.pathsum.specs.declared.commands.Command.{Command}
 use Rattle.pathsum.specs.declared.commands.Command.TheVariants as command
 use Rattle.pathsum.specs.declared.refusals.Refusal.{Refusal}
@@ -30,6 +29,7 @@ use Rattle.pathsum.specs.Splits.{IsParted, Lacks}
 use Rattle.pathsum.specs.Texts.{IsReadAs, Given, both, refuses, TextsAre, first_fault, second_fault, widths, circuits}
 use Rattle.pathsum.specs.Givens.{given_in, IsNear, OfCircuits, differ, agree}
 use Rattle.pathsum.specs.Verdicts.{Says, says_yes, says_yes_phase, says_no, says_no_pair, says_stuck, says_passed}
+use Rattle.pathsum.specs.Local.{SaysBehind, plainly, behind}
 use Rattle.pathsum.specs.Proofs.{Proves, derived, other, Echoes, accepted, rejected, left, Works}
 use Rattle.pathsum.specs.Ended.{Judges, lacking, refused, judged, Deserves, Answers, Ends, Writes}
 use Rattle.pathsum.specs.Judgements.{Judged, IsRefusal}
@@ -60,9 +60,14 @@ echoes_judgement accepted = tt
 echoes_judgement rejected = tt
 echoes_judgement left = tt
 
-works_judgement : (c : Command) (n : ℕ) (A B : List Prim) (d : List ℕ) (a : Answer) → Works c n A B d a → IsJudgement a
+behind_judgement : {n front : ℕ} {f : Finding} {a : Answer} → SaysBehind n front f a → IsJudgement a
+behind_judgement (plainly p s) = says_judgement s
+behind_judgement (behind h p q) = tt
+
+works_judgement : (c : Command) (n : ℕ) (A B : List (List Prim)) (d : List ℕ) (a : Answer) → Works c n A B d a → IsJudgement a
 works_judgement command.Same n A B d a w = says_judgement w.told
 works_judgement command.SamePhase n A B d a w = says_judgement w.told
+works_judgement command.SameLocal n A B d a w = behind_judgement w.told
 works_judgement command.Prove n A B d a w = proves_judgement w
 works_judgement command.Replay n A B d a w = echoes_judgement w.told
 
@@ -77,6 +82,7 @@ deserves_of c told old new (Proof k) i d = d
 deserves_of c told old new (YesPhase p) i d = d
 deserves_of c told old new (No k) i d = d
 deserves_of c told old new (NoPair j k) i d = d
+deserves_of c told old new (NoBehind j k) i d = d
 deserves_of c told old new (Stuck k) i d = d
 deserves_of c told old new (Passed k) i d = d
 deserves_of c told old new Accepted i d = d
@@ -112,6 +118,7 @@ answers_of c words told s s' Yes w d = record { command = c; is = w; deserves = 
 answers_of c words told s s' (Proof k) w d = record { command = c; is = w; deserves = d }
 answers_of c words told s s' (YesPhase p) w d = record { command = c; is = w; deserves = d }
 answers_of c words told s s' (NoPair j k) w d = record { command = c; is = w; deserves = d }
+answers_of c words told s s' (NoBehind j k) w d = record { command = c; is = w; deserves = d }
 answers_of c words told s s' (No k) w d = record { command = c; is = w; deserves = d }
 answers_of c words told s s' (Stuck k) w d = record { command = c; is = w; deserves = d }
 answers_of c words told s s' (Passed k) w d = record { command = c; is = w; deserves = d }
@@ -204,11 +211,12 @@ other_count f (x ∷ y ∷ z ∷ ws) t u n h = no_list h
     no_list : {a b c d e : List ℕ} {rest : List (List ℕ)} → c ∷ d ∷ e ∷ rest ≡ a ∷ b ∷ [] → ⊥
     no_list g = cc
 
-pub no_command : (words : List (List ℕ)) → (IsCommand command.Same words → ⊥) → (IsCommand command.SamePhase words → ⊥) → (IsCommand command.Prove words → ⊥) → (IsCommand command.Replay words → ⊥) → (c : Command) → ¬ (IsCommand c words)
-no_command words f k g h command.Same = f
-no_command words f k g h command.SamePhase = k
-no_command words f k g h command.Prove = g
-no_command words f k g h command.Replay = h
+pub no_command : (words : List (List ℕ)) → (IsCommand command.Same words → ⊥) → (IsCommand command.SamePhase words → ⊥) → (IsCommand command.SameLocal words → ⊥) → (IsCommand command.Prove words → ⊥) → (IsCommand command.Replay words → ⊥) → (c : Command) → ¬ (IsCommand c words)
+no_command words f k l g h command.Same = f
+no_command words f k l g h command.SamePhase = k
+no_command words f k l g h command.SameLocal = l
+no_command words f k l g h command.Prove = g
+no_command words f k l g h command.Replay = h
 
 -- ---- refusals
 near_or_far : (x y : ℕ) → (x ≤ y) ⊎ (y ≤ x)
@@ -243,7 +251,7 @@ lacks_judged c bytes at answer e h r = inr (subst (Judges c bytes) (sym r.told) 
 pub refused_judged : (c : Command) (bytes a b d : List ℕ) (start at : ℕ) (why : Refusal) (answer : Answer) → IsParted c bytes a b start d → TextsAre a b start (refuses why at) → IsRefusal bytes why at answer → Judged c bytes answer
 refused_judged c bytes a b d start at why answer p t r = inr (subst (Judges c bytes) (sym r.told) (refused a b d start at {why = why} {line = r.line} {column = r.column} p t r.place))
 
-pub work_judged : (c : Command) (bytes a b d : List ℕ) (start n : ℕ) (A B : List Prim) (answer : Answer) → IsParted c bytes a b start d → TextsAre a b start (both n A B) → Works c n A B d answer → Judged c bytes answer
+pub work_judged : (c : Command) (bytes a b d : List ℕ) (start n : ℕ) (A B : List (List Prim)) (answer : Answer) → IsParted c bytes a b start d → TextsAre a b start (both n A B) → Works c n A B d answer → Judged c bytes answer
 work_judged c bytes a b d start n A B answer p t w = inr (judged a b d start n A B p t w)
 
 -- ---- texts
@@ -268,13 +276,13 @@ near_refusal t why at e n = subst IsNear e n
 pub refuses_read : (a b : List ℕ) (start : ℕ) (t : TwoTexts) (why : Refusal) (at : ℕ) → t ≡ Refuses why at → TextsAre a b start (given_in t) → TextsAre a b start (refuses why at)
 refuses_read a b start t why at e x = subst (λ (u : TwoTexts). TextsAre a b start (given_in u)) e x
 
-pub both_read : (a b : List ℕ) (start : ℕ) (t : TwoTexts) (pair : Pair) → t ≡ Both pair → TextsAre a b start (given_in t) → TextsAre a b start (both pair.qubits (run_of pair.first) (run_of pair.second))
+pub both_read : (a b : List ℕ) (start : ℕ) (t : TwoTexts) (pair : Pair) → t ≡ Both pair → TextsAre a b start (given_in t) → TextsAre a b start (both pair.qubits pair.first pair.second)
 both_read a b start t pair e x = subst (λ (u : TwoTexts). TextsAre a b start (given_in u)) e x
 
 pub widths_told : (c d : CircuitOf) (start at : ℕ) → c.qubits ≢ d.qubits → at ≡ start → OfCircuits c d start (refuses Widths at)
 widths_told c d start at h e = subst (λ (i : ℕ). OfCircuits c d start (refuses Widths i)) (sym e) (differ h)
 
-pub circuits_told : (c d : CircuitOf) (start : ℕ) → c.qubits ≡ d.qubits → OfCircuits c d start (both c.qubits (run_of c.items) (run_of d.items))
+pub circuits_told : (c d : CircuitOf) (start : ℕ) → c.qubits ≡ d.qubits → OfCircuits c d start (both c.qubits c.items d.items)
 circuits_told c d start e = agree e
 
 pub texts_of : (a b : List ℕ) (start : ℕ) (c d : CircuitOf) (g : Given) → IsReadAs a (Ok c) → IsReadAs b (Ok d) → OfCircuits c d start g → TextsAre a b start g

@@ -5,3 +5,4 @@ pub mod Placing
 pub mod Splitting
 pub mod Verdicts
 pub mod PhaseLines
+pub mod Edits

@@ -5,7 +5,7 @@ use Rattle.std.proofs.lemmas.List.{take-append-drop, length-append, take_more}
 use Rattle.std.proofs.Math.Seq.{take-append_seam, drop-append_seam}
 use Rattle.std.specs.Prelude.{Option, Some, None, MatchOption}
 use Rattle.pathsum.specs.declared.commands.Command.{Command}
-use Rattle.pathsum.specs.declared.commands.Command.TheVariants.{Same, SamePhase, Prove, Replay}
+use Rattle.pathsum.specs.declared.commands.Command.TheVariants.{Same, SamePhase, SameLocal, Prove, Replay}
 use Rattle.pathsum.specs.Splits.{IsMark, plain, returned, EndsLine, at_end, at_feed, Marks, AreLines, none, some, Separates, SplitsAt, NoSplit, InTwo, InThree, OneOnly, IsParted, Lacks}
 
 heads : {x y : ℕ} {xs ys : List ℕ} → x ∷ xs ≡ y ∷ ys → x ≡ y
@@ -235,6 +235,7 @@ three_once bytes a b d s a' b' d' s' p q =
 pub parts_once : (c : Command) (bytes a b d : List ℕ) (s : ℕ) (a' b' d' : List ℕ) (s' : ℕ) → IsParted c bytes a b s d → IsParted c bytes a' b' s' d' → SameParts a b d s a' b' d' s'
 parts_once Same bytes a b d s a' b' d' s' p q = two_once bytes a b d s a' b' d' s' p q
 parts_once SamePhase bytes a b d s a' b' d' s' p q = two_once bytes a b d s a' b' d' s' p q
+parts_once SameLocal bytes a b d s a' b' d' s' p q = two_once bytes a b d s a' b' d' s' p q
 parts_once Prove bytes a b d s a' b' d' s' p q = two_once bytes a b d s a' b' d' s' p q
 parts_once Replay bytes a b d s a' b' d' s' p q = three_once bytes a b d s a' b' d' s' p q
 
@@ -247,6 +248,7 @@ three_or_lacks bytes a b d s p (inr o) =
 pub parts_or_lacks : (c : Command) (bytes a b d : List ℕ) (s : ℕ) → IsParted c bytes a b s d → Lacks c bytes → ⊥
 parts_or_lacks Same bytes a b d s p h = h a b p.split.separates
 parts_or_lacks SamePhase bytes a b d s p h = h a b p.split.separates
+parts_or_lacks SameLocal bytes a b d s p h = h a b p.split.separates
 parts_or_lacks Prove bytes a b d s p h = h a b p.split.separates
 parts_or_lacks Replay bytes a b d s p h = three_or_lacks bytes a b d s p h
 

@@ -9,7 +9,7 @@ use Rattle.ps_steps.specs.Texts.{derivation_text}
 use Rattle.ps_replay.specs.declared.replayed.Why.{Why}
 use Rattle.ps_replay.specs.declared.replayed.Why.TheVariants as why
 use Rattle.pathsum.specs.declared.answer.Answer.{Answer}
-use Rattle.pathsum.specs.declared.answer.Answer.TheVariants.{Yes, Proof, YesPhase, No, NoPair, Stuck, Passed, Accepted, Rejected, Left, Refused, Words, Read, TooLong, Memory}
+use Rattle.pathsum.specs.declared.answer.Answer.TheVariants.{Yes, Proof, YesPhase, No, NoPair, NoBehind, Stuck, Passed, Accepted, Rejected, Left, Refused, Words, Read, TooLong, Memory}
 use Rattle.pathsum.specs.Inputs.{bit_code}
 use Rattle.pathsum.specs.Names.{refusal_name}
 
@@ -19,6 +19,7 @@ status_of (Proof derivation) = 0
 status_of (YesPhase phase) = 0
 status_of (No input) = 1
 status_of (NoPair first second) = 1
+status_of (NoBehind input front) = 1
 status_of (Stuck sum) = 2
 status_of (Passed limit) = 2
 status_of Accepted = 0
@@ -56,6 +57,7 @@ text_of (Proof derivation) = derivation_text derivation
 text_of (YesPhase phase) = codes "yes phase " ++ turn_text phase ++ codes "\n"
 text_of (NoPair first second) = codes "no " ++ map bit_code (point first.qubits first.at) ++ codes " " ++ map bit_code (point second.qubits second.at) ++ codes "\n"
 text_of (No input) = codes "no " ++ map bit_code (point input.qubits input.at) ++ codes "\n"
+text_of (NoBehind input front) = codes "no " ++ map bit_code (point input.qubits input.at) ++ codes " behind " ++ decimal front ++ codes "\n"
 text_of (Stuck sum) = codes "unknown stuck " ++ sum_text sum ++ codes "\n"
 text_of (Passed limit) = limit_words limit ++ codes "\n"
 text_of Accepted = codes "accepted\n"

@@ -22,7 +22,7 @@ pub data Judges (c : Command) (bytes : List ℕ) : Answer → Type 0 where
   lacking : {line column : ℕ} → Lacks c bytes → IsPlace bytes (length bytes) line column → Judges c bytes (Refused Separator line column)
   refused : (a b d : List ℕ) (start at : ℕ) {why : Refusal} {line column : ℕ} → IsParted c bytes a b start d → TextsAre a b start (refuses why at) → IsPlace bytes at line column
       → Judges c bytes (Refused why line column)
-  judged : (a b d : List ℕ) (start n : ℕ) (A B : List Prim) {answer : Answer} → IsParted c bytes a b start d → TextsAre a b start (both n A B) → Works c n A B d answer
+  judged : (a b d : List ℕ) (start n : ℕ) (I K : List (List Prim)) {answer : Answer} → IsParted c bytes a b start d → TextsAre a b start (both n I K) → Works c n I K d answer
       → Judges c bytes answer
 
 -- what an answer of a command claims of the bytes that the source told, and of its counts of faults; want of memory claims nothing

@@ -4,6 +4,7 @@ pub mod Ended
 pub mod Givens
 pub mod Inputs
 pub mod Judgements
+pub mod Local
 pub mod Names
 pub mod Proofs
 pub mod Splits

@@ -6,6 +6,7 @@ use Rattle.ps_sum.specs.declared.sums.PathSum.{PathSum}
 use Rattle.ps_rules.specs.declared.steps.Step.{Step}
 use Rattle.ps_rules.specs.declared.steps.Move.{Move}
 use Rattle.ps_reach.specs.declared.mode.Mode.TheVariants.{Exact, Phase}
+use Rattle.ps_reach.specs.Runs.{run_of}
 use Rattle.ps_reach.specs.Fillings.{Fills, kept}
 use Rattle.ps_reach.specs.Findings.{Compares, yes, IsUnit}
 use Rattle.ps_steps.specs.declared.derivation.Derivation.{Derivation}
@@ -19,6 +20,7 @@ use Rattle.pathsum.specs.declared.commands.Command.{Command}
 use Rattle.pathsum.specs.declared.commands.Command.TheVariants as command
 use Rattle.pathsum.specs.declared.answer.Answer.{Answer}
 use Rattle.pathsum.specs.declared.answer.Answer.TheVariants.{Yes, Proof, Accepted, Rejected, Left}
+use Rattle.pathsum.specs.Local.{IsLocalVerdict}
 use Rattle.pathsum.specs.Verdicts.{IsVerdict}
 
 -- each list is filled from its first prim on, comparing the two sums finds yes, the lines are those of both fills and of
@@ -56,9 +58,10 @@ pub record IsReplay (n : ℕ) (A B : List Prim) (bytes : List ℕ) (answer : Ans
   pub told : Echoes replayed answer
   pub sound : answer ≡ Accepted → SameMap n A B
 
--- what a command does with two lists of prims and the bytes of a derivation
-abbrev pub Works : Command → ℕ → List Prim → List Prim → List ℕ → Answer → Type 0
-Works command.Same n A B d answer = IsVerdict n A B Exact answer
-Works command.SamePhase n A B d answer = IsVerdict n A B Phase answer
-Works command.Prove n A B d answer = Proves n A B answer
-Works command.Replay n A B d answer = IsReplay n A B d answer
+-- what a command does with two lists of items and the bytes of a derivation
+abbrev pub Works : Command → ℕ → List (List Prim) → List (List Prim) → List ℕ → Answer → Type 0
+Works command.Same n I K d answer = IsVerdict n (run_of I) (run_of K) Exact answer
+Works command.SamePhase n I K d answer = IsVerdict n (run_of I) (run_of K) Phase answer
+Works command.SameLocal n I K d answer = IsLocalVerdict n I K answer
+Works command.Prove n I K d answer = Proves n (run_of I) (run_of K) answer
+Works command.Replay n I K d answer = IsReplay n (run_of I) (run_of K) d answer

@@ -1,7 +1,7 @@
 -- Where an input is split.
 use Rattle.std.specs.Prelude.{ℕ, ◌≡◌, ◌+◌, ◌≤◌, ◌⊎◌, List, [], ◌∷◌, ◌++◌, length, codes}
 use Rattle.pathsum.specs.declared.commands.Command.{Command}
-use Rattle.pathsum.specs.declared.commands.Command.TheVariants.{Same, SamePhase, Prove, Replay}
+use Rattle.pathsum.specs.declared.commands.Command.TheVariants.{Same, SamePhase, SameLocal, Prove, Replay}
 
 -- the separator without its LF
 pub data IsMark (mark : List ℕ) : Type 0 where
@@ -65,6 +65,7 @@ pub record OneOnly (bytes : List ℕ) : Type 0 where
 abbrev pub IsParted : Command → List ℕ → List ℕ → List ℕ → ℕ → List ℕ → Type 0
 IsParted Same bytes a b start d = InTwo bytes a b start d
 IsParted SamePhase bytes a b start d = InTwo bytes a b start d
+IsParted SameLocal bytes a b start d = InTwo bytes a b start d
 IsParted Prove bytes a b start d = InTwo bytes a b start d
 IsParted Replay bytes a b start d = InThree bytes a b start d
 
@@ -72,5 +73,6 @@ IsParted Replay bytes a b start d = InThree bytes a b start d
 abbrev pub Lacks : Command → List ℕ → Type 0
 Lacks Same bytes = NoSplit bytes
 Lacks SamePhase bytes = NoSplit bytes
+Lacks SameLocal bytes = NoSplit bytes
 Lacks Prove bytes = NoSplit bytes
 Lacks Replay bytes = NoSplit bytes ⊎ OneOnly bytes

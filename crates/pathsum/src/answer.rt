@@ -27,6 +27,8 @@ pub enum Answer {
     No(Input),
     /// No one phase will do for the two circuits at these two inputs.
     NoPair(Input, Input),
+    /// What is left of the two circuits behind so many items that they have in common differs at this input.
+    NoBehind(Input, usize),
     /// No rule reduces this sum, to which the overlap of the two circuits comes.
     Stuck(PathSum),
     /// A limit was passed on the way.
@@ -67,6 +69,7 @@ impl Answer {
             Answer::YesPhase(_) => 0,
             Answer::No(_) => 1,
             Answer::NoPair(..) => 1,
+            Answer::NoBehind(..) => 1,
             Answer::Stuck(_) => 2,
             Answer::Passed(_) => 2,
             Answer::Accepted => 0,
@@ -90,6 +93,7 @@ impl Answer {
             Answer::YesPhase(phase) => phase_line(alloc, *phase),
             Answer::No(input) => no_line(alloc, input),
             Answer::NoPair(first, second) => no_pair_line(alloc, first, second),
+            Answer::NoBehind(input, front) => no_behind_line(alloc, input, *front),
             Answer::Stuck(sum) => stuck_line(alloc, sum),
             Answer::Passed(passed) => passed_line(alloc, passed),
             Answer::Accepted => b"accepted\n".to_vec(alloc),
@@ -148,6 +152,17 @@ fn no_pair_line(alloc: Global, first: &Input, second: &Input) -> Result<Vec<u8>,
     line.push(b' ')?;
     push_digits(&mut line, second)?;
     line.push(b'\n')?;
+    Ok(line)
+}
+
+// `no` with a digit for each qubit, and how many items stand before what differs.
+fn no_behind_line(alloc: Global, input: &Input, front: usize) -> Result<Vec<u8>, AllocError>
+    ensures { IfOk result (λ v. v.items ≡ codes "no " ++ map bit_code (point input.now.qubits input.now.at) ++ codes " behind " ++ decimal front ++ codes "\n") }
+{
+    let mut line = b"no ".to_vec(alloc)?;
+    push_digits(&mut line, input)?;
+    let behind = format!(in alloc; " behind {front}\n")?;
+    line.extend_from_slice(behind.as_bytes())?;
     Ok(line)
 }
 

@@ -36,6 +36,15 @@ pub fn same_phase_run<S: Source, W: Sink>(alloc: Global, source: &mut S, sink: &
     print(alloc, sink, &answer)
 }
 
+/// Reads two texts from the source, and writes whether they are one linear map, as what is left of them
+/// where they part tells.
+pub fn same_local_run<S: Source, W: Sink>(alloc: Global, source: &mut S, sink: &mut W) -> Ended
+    ensures { Ends (Deserves Command.SameLocal (S.remaining source.old) (S.faults source.old) (S.faults source.new)) (W.held sink.old) (W.held sink.new) (W.faults sink.old) (W.faults sink.new) result.status }
+{
+    let answer = answer(alloc, Command::SameLocal, source);
+    print(alloc, sink, &answer)
+}
+
 /// Reads two texts from the source, and writes a derivation that they are one linear map, or that they
 /// are not, or that it is unknown.
 pub fn prove_run<S: Source, W: Sink>(alloc: Global, source: &mut S, sink: &mut W) -> Ended

@@ -11,6 +11,8 @@ pub enum Command {
     Same,
     /// Whether they are so up to a global phase.
     SamePhase,
+    /// Whether they are one linear map, asked of what is left of them where they part.
+    SameLocal,
     /// Whether they are one linear map, with the derivation where they are.
     Prove,
     /// Whether a derivation shows that two circuits are one linear map.
@@ -25,6 +27,8 @@ pub fn command_of(words: &[String]) -> Option<Command>
         Some(Command::Same)
     } else if are_two(words, "same", "phase") {
         Some(Command::SamePhase)
+    } else if are_two(words, "same", "local") {
+        Some(Command::SameLocal)
     } else if is_word(words, "prove") {
         Some(Command::Prove)
     } else if is_word(words, "replay") {

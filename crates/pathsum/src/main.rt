@@ -19,7 +19,7 @@ mod tests;
 mod verdict;
 
 use answer::Answer;
-pub use calls::{prove_run, replay_run, same_phase_run, same_run};
+pub use calls::{prove_run, replay_run, same_local_run, same_phase_run, same_run};
 use commands::{Command, command_of};
 pub use ended::Ended;
 use print::print;
@@ -45,6 +45,7 @@ pub fn run<S: Source, W: Sink, G: Gate + Sync>(
         None => print(alloc, sink, &Answer::Words),
         Some(Command::Same) => same_run(alloc, source, sink),
         Some(Command::SamePhase) => same_phase_run(alloc, source, sink),
+        Some(Command::SameLocal) => same_local_run(alloc, source, sink),
         Some(Command::Prove) => prove_run(alloc, source, sink),
         Some(Command::Replay) => replay_run(alloc, source, sink),
     }

@@ -141,6 +141,7 @@ pub fn parted(command: Command, bytes: &[u8]) -> Option<Pieces<'_>>
     match command {
         Command::Same => in_two(bytes),
         Command::SamePhase => in_two(bytes),
+        Command::SameLocal => in_two(bytes),
         Command::Prove => in_two(bytes),
         Command::Replay => in_three(bytes),
     }

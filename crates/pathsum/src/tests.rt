@@ -147,6 +147,84 @@ fn a_realistic_pair_is_answered(rt: HostRuntime) -> Result<(), Fail> {
     Ok(())
 }
 
+// The text-book Toffoli from Clifford and T gates.
+const TOFFOLI_BY_HAND: &str =
+    "h q[2];\ncx q[1],q[2];\ntdg q[2];\ncx q[0],q[2];\nt q[2];\ncx q[1],q[2];\ntdg q[2];\ncx q[0],q[2];\nt q[1];\nt q[2];\nh q[2];\ncx q[0],q[1];\nt q[0];\ntdg q[1];\ncx q[0],q[1];\n";
+
+#[test]
+fn edits_are_answered(rt: HostRuntime) -> Result<(), Fail> {
+    let alloc = rt.alloc();
+    let moved = format!(in alloc; "{TOFFOLI_BY_HAND}t q[3];\nh q[3];\n")?;
+    let rows: [(u32, &str, &str, u8, &[u8]); 14] = [
+        (1, "h q[0];\nt q[0];\n", "h q[0];\nt q[0];\n", 0, b"yes\n"),
+        (1, "", "", 0, b"yes\n"),
+        (1, "x q[0];\nh q[0];\n", "h q[0];\n", 1, b"no 0\n"),
+        (
+            1,
+            "h q[0];\nx q[0];\nh q[0];\n",
+            "h q[0];\nh q[0];\n",
+            1,
+            b"no 0 behind 1\n",
+        ),
+        (1, "h q[0];\nx q[0];\n", "h q[0];\n", 1, b"no 0 behind 1\n"),
+        (
+            1,
+            "h q[0];\nx q[0];\nx q[0];\nt q[0];\n",
+            "h q[0];\nt q[0];\n",
+            0,
+            b"yes\n",
+        ),
+        (1, "x q[0];\nx q[0];\n", "x q[0];\n", 1, b"no 0 behind 1\n"),
+        (1, "x q[0];\nx q[0];\nx q[0];\n", "x q[0];\n", 0, b"yes\n"),
+        (2, "h q[0];\nt q[1];\n", "t q[1];\nh q[0];\n", 0, b"yes\n"),
+        (
+            2,
+            "x q[0];\ncx q[0],q[1];\n",
+            "cx q[0],q[1];\nx q[0];\n",
+            1,
+            b"no 00\n",
+        ),
+        (
+            4,
+            "t q[3];\nccx q[0],q[1],q[2];\nh q[3];\n",
+            moved.as_str(),
+            0,
+            b"yes\n",
+        ),
+        (
+            1,
+            "x q[0];\nh q[0];\nt q[0];\nh q[0];\n",
+            "x q[0];\n",
+            2,
+            b"unknown stuck k=2 m=1 P=7/8*y0 f=-\n",
+        ),
+        (
+            1,
+            "t q[0];\n",
+            "rx(pi/3) q[0];\n",
+            65,
+            b"input NotDyadic 9:4\n",
+        ),
+        (
+            1,
+            "x q[0];\n",
+            "cx q[0],q[0];\n",
+            65,
+            b"input RepeatedQubit 9:9\n",
+        ),
+    ];
+    for (qubits, first, second, status, printed) in rows {
+        let input = pair(alloc, qubits, first, second)?;
+        assert!(rt;
+            ends_so(
+                alloc,
+                &told(&["same", "local"], input.as_bytes(), status, printed)
+            )?
+        );
+    }
+    Ok(())
+}
+
 #[test]
 fn limits_are_told(rt: HostRuntime) -> Result<(), Fail> {
     let alloc = rt.alloc();
@@ -369,6 +447,7 @@ fn words_and_faults_of_the_outside_are_told(rt: HostRuntime) -> Result<(), Fail>
         told(&["same", "same"], TWICE, 64, b"words\n"),
         told(&["phase", "phase"], TWICE, 64, b"words\n"),
         told(&["same", "phase", "phase"], TWICE, 64, b"words\n"),
+        told(&["local"], TWICE, 64, b"words\n"),
         told(&["Prove"], TWICE, 64, b"words\n"),
         told(&["gen", "1", "17", "3"], TWICE, 64, b"words\n"),
     ];

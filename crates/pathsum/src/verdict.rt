@@ -3,10 +3,13 @@
 ghost use Rattle.std.specs.Prelude.{◌≡◌, ◌*◌, ◌≤◌, ◌↔◌, List, length, IsTrue, IfOk};
 ghost use Rattle.ps_prim.specs.declared.prims.Primitive.{Primitive as Prim};
 ghost use Rattle.ps_reach.specs.Runs.{run_of};
+ghost use Rattle.ps_reach.specs.Findings.{no};
 ghost use Rattle.ps_reach.specs.Judging.{finding_of};
+ghost use Rattle.ps_local.specs.Local.{found_as};
 ghost use Rattle.ps_reach.specs.declared.mode.Mode.TheVariants.{Exact};
 ghost use Rattle.ps_reach.specs.declared.verdict.Verdict.TheVariants.{Yes};
 ghost use Rattle.ps_normal.specs.Comparing.{IsBoth, IsDecision};
+ghost use Rattle.pathsum.specs.Local.{SaysBehind, IsLocalVerdict};
 ghost use Rattle.pathsum.specs.Verdicts.{Says, IsVerdict};
 ghost use Rattle.pathsum.specs.Proofs.{Proves, Echoes, IsReplay, Works};
 
@@ -14,6 +17,7 @@ use super::answer::Answer;
 use super::commands::Command;
 use super::input::Input;
 use super::pair::Pair;
+use ps_local::{Found, decide_local};
 use ps_normal::{Decision, derive};
 use ps_prim::Prim;
 use ps_reach::{Items, Judged, Mode, Verdict};
@@ -29,11 +33,12 @@ pub fn work(
     document: &[u8],
 ) -> Result<Answer, AllocError>
     requires { length document.now ≤ 16777216 }
-    ensures { IfOk result (Works command pair.qubits (run_of pair.first) (run_of pair.second) document.now) }
+    ensures { IfOk result (Works command pair.qubits pair.first pair.second document.now) }
 {
     match command {
         Command::Same => decide(alloc, pair, Mode::Exact),
         Command::SamePhase => decide(alloc, pair, Mode::Phase),
+        Command::SameLocal => decide_edit(alloc, pair),
         Command::Prove => prove(alloc, pair),
         Command::Replay => replay_document(alloc, &pair, document),
     }
@@ -48,6 +53,17 @@ fn decide(alloc: Global, pair: Pair, mode: Mode) -> Result<Answer, AllocError>
         Decision::Judged(judged) => Ok(told(qubits, judged.verdict)),
         Decision::Passed(evidence) => Ok(Answer::Passed(evidence.passed)),
     }
+}
+
+// Whether two circuits are one linear map, as what is left of them where they part tells.
+fn decide_edit(alloc: Global, pair: Pair) -> Result<Answer, AllocError>
+    ensures { IfOk result (IsLocalVerdict pair.qubits pair.first pair.second) }
+{
+    let qubits = pair.qubits;
+    let first = segment(pair.first);
+    let second = segment(pair.second);
+    let local = decide_local(alloc, &first, &second, qubits)?;
+    Ok(found_behind(qubits, local.front, local.found))
 }
 
 // The derivation that two circuits are one linear map, or what else was found.
@@ -141,6 +157,40 @@ fn told(qubits: u32, verdict: Verdict) -> Answer
         ),
         Verdict::Stuck(sum) => Answer::Stuck(sum),
         Verdict::Passed(evidence) => Answer::Passed(evidence.passed),
+    }
+}
+
+// The answer that tells what was found of what is left behind so many items.
+fn found_behind(qubits: u32, front: usize, found: Found) -> Answer
+    requires { qubits ≤ 64 }
+    ensures { SaysBehind qubits front (found_as found) result }
+{
+    match found {
+        Found::Nothing => Answer::Yes,
+        Found::Decided(Decision::Judged(judged)) => told_behind(qubits, front, judged.verdict),
+        Found::Decided(Decision::Passed(evidence)) => Answer::Passed(evidence.passed),
+    }
+}
+
+// The answer that tells a verdict on what is left behind so many items.
+fn told_behind(qubits: u32, front: usize, verdict: Verdict) -> Answer
+    requires { qubits ≤ 64 }
+    ensures { SaysBehind qubits front (finding_of verdict) result }
+{
+    match verdict {
+        Verdict::No(at) => no_behind(Input { qubits, at }, front),
+        verdict => told(qubits, verdict),
+    }
+}
+
+// The answer that tells an input at which what is left behind so many items differs.
+fn no_behind(input: Input, front: usize) -> Answer
+    ensures { SaysBehind input.qubits front (no input.at) result }
+{
+    if front == 0 {
+        Answer::No(input)
+    } else {
+        Answer::NoBehind(input, front)
     }
 }
 

@@ -180,7 +180,7 @@ module _ {O C R : Type 0} (journal : O → List (Entry C R)) (spare : O → ℕ)
       let rb : refusals b ≡ refusal v.refused + at_ends Ends = rw live in
       let rw' : refusals w ≡ refusal w.refused + at_ends w.ended = rw live' in
       let ra : at_ends Ends ≡ at_ends v.ended + at_ends (ended_of w ∷ w.ended) =
-          total_append (λ (e : Ended C R). refusal e.refused) v.ended (ended_of w ∷ w.ended) in
+      total_append (λ (e : Ended C R). refusal e.refused) v.ended (ended_of w ∷ w.ended) in
       let pv : parts v ≡ 1 + (v.end - v.next) + length v.ended = rw live in
       let pb : parts b ≡ 1 + (v.end - v.next) + length Ends = rw live in
       let pw : parts w ≡ 1 + (w.end - w.next) + length w.ended = rw live' in

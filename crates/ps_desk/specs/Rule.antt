@@ -60,7 +60,7 @@ pub record Roster {C R : Type 0} (history : List (Entry C R)) (tickets : ℕ) (c
   pub first_is : (first.live ≡ true) × (first.number ≡ 0) × (first.next ≤ first.end) × (length first.out + length first.ended + 1 ≡ first.next)
   pub covers : (n : ℕ) → n < first.next
       → (n ≡ 0) ⊎ (Has first.out n ⊎ ((k : ℕ) × (e : Ended C R) × (get_elem? first.ended k ≡ some e) × (e.number ≡ n)))
-  pub numbers : (i j : ℕ) (a b : Core C R) → get_elem? cores i ≡ some a → get_elem? cores j ≡ some b 
+  pub numbers : (i j : ℕ) (a b : Core C R) → get_elem? cores i ≡ some a → get_elem? cores j ≡ some b
       → a.live ≡ true → b.live ≡ true → a.number ≡ b.number → i ≡ j
   pub below : (i : ℕ) (a : Core C R) → get_elem? cores i ≡ some a → a.live ≡ true → a.number < first.next
   pub others : (i : ℕ) (a : Core C R) → get_elem? cores i ≡ some a → a.live ≡ true → i ≢ 0

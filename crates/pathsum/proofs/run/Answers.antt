@@ -14,6 +14,9 @@ returns-in-Some-Same-clause-one_answer g c = one_answer _ _
 pub returns-in-Some-SamePhase-clause-one_answer : goal.returns-in-Some-SamePhase-clause-one_answer
 returns-in-Some-SamePhase-clause-one_answer g c = one_answer _ _
 
+pub returns-in-Some-SameLocal-clause-one_answer : goal.returns-in-Some-SameLocal-clause-one_answer
+returns-in-Some-SameLocal-clause-one_answer g c = one_answer _ _
+
 pub returns-in-Some-Prove-clause-one_answer : goal.returns-in-Some-Prove-clause-one_answer
 returns-in-Some-Prove-clause-one_answer g c = one_answer _ _
 

@@ -1,0 +1,10 @@
+pub mod Runs
+pub mod Fronting
+pub mod Parting
+pub mod Uniqueness
+pub mod Pieces
+pub mod Telling
+pub mod Masks
+pub mod Keeping
+pub mod Looking
+pub mod Splitting

@@ -1,0 +1,6 @@
+pub mod Exchanges
+pub mod Cuts
+pub mod Qubits
+pub mod Wires
+pub mod Local
+pub mod LocalLaws

@@ -1,0 +1,18 @@
+//! Questions about an edit: two lists of items are cut where they part, and what is left of them is compared.
+#![tactic(auto)]
+
+pub mod cut;
+mod ends;
+mod equality;
+pub mod fronts;
+pub mod laws;
+pub mod local;
+pub mod middles;
+mod qubits;
+pub mod questions;
+mod wires;
+
+pub use cut::Cut;
+pub use local::{Found, Local};
+pub use middles::cut_of;
+pub use questions::decide_local;
