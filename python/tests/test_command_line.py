@@ -230,7 +230,12 @@ class CommandLine(unittest.TestCase):
         slow.chmod(0o755)
         words = [sys.executable, str(TOOL), "compare", str(one), str(one)]
         child = subprocess.Popen(
-            words, env={**os.environ, "PATHSUM_PROGRAM": str(slow)}, stdout=subprocess.PIPE, stderr=subprocess.PIPE
+            words,
+            env={**os.environ, "PATHSUM_PROGRAM": str(slow)},
+            stdout=subprocess.PIPE,
+            stderr=subprocess.PIPE,
+            # (a shell that runs these tests in the background has its children ignore interrupts)
+            preexec_fn=lambda: signal.signal(signal.SIGINT, signal.SIG_DFL),
         )
         end = time.monotonic() + 20
         while time.monotonic() < end and not (self.folder / "pid").exists():
