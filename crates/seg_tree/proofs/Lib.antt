@@ -10,5 +10,6 @@ pub mod Built
 pub mod Once
 pub mod Texts
 pub mod Whole
+pub mod Grown
 pub mod Steep
 pub mod Results

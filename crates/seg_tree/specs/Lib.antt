@@ -6,3 +6,4 @@ pub mod Drafts
 pub mod Growth
 pub mod Laws
 pub mod Seen
+pub mod Older

@@ -6,6 +6,7 @@ ghost use Rattle.seg_tree.specs.Seen.{Shows};
 ghost use Rattle.seg_tree.specs.Table.{tree, planted, root_tree, IsRoot, IsWholeRoot, Stands};
 ghost use Rattle.seg_tree.specs.Drafts.{Describes, IsDraft, IsMaybe};
 ghost use Rattle.seg_tree.specs.Growth.{Extends};
+ghost use Rattle.seg_tree.specs.Older.{IsForest};
 
 use crate::drafts::{Draft, Slot};
 use crate::node::{Node, Seen};
@@ -81,7 +82,8 @@ impl Nodes {
         }
     }
 
-    /// The height of a node's tree: 0 of a leaf, and of a branch one more than that of its higher side.
+    /// The height of a node's tree: 0 of a leaf, and of a branch one more than that of its higher side. Each tree of the
+    /// table is a leaf, or a branch of the trees of older nodes.
     pub fn height(&self, node: Node) -> u32
         requires { node < length self.now }
         ensures value { result ≡ height (tree self.now node) }
@@ -89,6 +91,7 @@ impl Nodes {
         ensures bound { 2 ^ result ≤ leaves (tree self.now node) * leaves (tree self.now node) }
         ensures filled { leaves (tree self.now node) ≤ length (run (tree self.now node)) }
         ensures whole { IsWhole node (tree self.now node) }
+        ensures forest { IsForest self.now }
     {
         let draft = self.draft(node);
         self.height_of(&draft)
@@ -123,6 +126,7 @@ impl Nodes {
         requires { node < length self.now }
         ensures draft { IsDraft self.now (tree self.now node) result }
         ensures whole { IsWhole node (tree self.now node) }
+        ensures forest { IsForest self.now }
     {
         let _ = &self.slots;
         Draft::Old(node)
