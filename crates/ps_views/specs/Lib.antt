@@ -1,0 +1,13 @@
+pub mod Counts
+pub mod Views
+pub mod Older
+pub mod Fields
+pub mod Stands
+pub mod Readiness
+pub mod OpenWhere
+pub mod Tasks
+pub mod Objections
+pub mod Living
+pub mod Pinned
+pub mod Finds
+pub mod Changes
