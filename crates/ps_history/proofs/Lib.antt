@@ -1,0 +1,13 @@
+pub mod Lists
+pub mod Lookups
+pub mod Passing
+pub mod Drafts
+pub mod Reading
+pub mod Wellness
+pub mod Others
+pub mod Holding
+pub mod Giving
+pub mod Standing
+pub mod Turns
+pub mod Rounds
+pub mod Ends

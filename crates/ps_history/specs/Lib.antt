@@ -1,0 +1,9 @@
+pub mod Lasts
+pub mod Inner
+pub mod Questions
+pub mod Matching
+pub mod Bounds
+pub mod Stages
+pub mod Nodes
+pub mod Taken
+pub mod After
