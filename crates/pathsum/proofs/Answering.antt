@@ -34,17 +34,19 @@ use Rattle.pathsum.specs.declared.commands.Command.{Command}
 use Rattle.pathsum.specs.declared.commands.Command.TheVariants as command
 use Rattle.pathsum.specs.declared.refusals.Refusal.{Refusal}
 use Rattle.pathsum.specs.declared.refusals.Refusal.TheVariants.{Text, Separator}
+use Rattle.pathsum.specs.Answers.{status_of}
 use Rattle.pathsum.specs.Commands.{IsCommand, words_of}
 use Rattle.pathsum.specs.Inputs.{bit_code}
 use Rattle.pathsum.specs.Splits.{IsParted}
 use Rattle.pathsum.specs.Texts.{IsReadAs, Given, both, refuses, TextsAre, first_fault, second_fault, widths, circuits}
 use Rattle.pathsum.specs.Verdicts.{Says, says_yes, says_yes_phase, says_no, says_no_pair, says_stuck, says_passed, IsVerdict}
 use Rattle.ps_local.specs.declared.cut.Cut.{Cut}
-use Rattle.ps_local.specs.Local.{Finds, nothing, something}
+use Rattle.ps_local.specs.Local.{Finds, nothing, something, windowed}
+use Rattle.ps_local.specs.Windows.{IsUnknown}
 use Rattle.ps_local.proofs.Uniqueness.{cut_once}
 use Rattle.pathsum.specs.Local.{SaysBehind, plainly, behind, IsLocalVerdict}
 use Rattle.pathsum.specs.Proofs.{IsDerivation, Proves, derived, other, Echoes, accepted, rejected, left, IsReplay, Works}
-use Rattle.pathsum.specs.Ended.{Judges, lacking, refused, judged, Answers, IsOfInput, Agree, IsOneAnswer}
+use Rattle.pathsum.specs.Ended.{Judges, lacking, refused, judged, Answers, IsOfInput, Agree, IsTurned, AreAlike, agree, turned, turned_back, IsOneAnswer}
 use Rattle.pathsum.proofs.Splitting.{parts_once, parts_or_lacks}
 use Rattle.pathsum.proofs.Placing.{place_once}
 
@@ -196,24 +198,64 @@ behind_same (plainly p s) (behind h u v) = absurd (no_front p h)
 behind_same (behind h u v) (plainly p s) = absurd (no_front p h)
 behind_same {n} {front} (behind {input = i} h u v) (behind {input = k} h' u' v') = behind_agree n front i k u u' (sym v ∙ v')
 
-finds_one : (n : ℕ) (M N : List (List Prim)) {f g : Finding} → Finds n M N f → Finds n M N g → f ≡ g
-finds_one n M N (nothing e) (nothing h) = refl
-finds_one n M N (nothing e) (something s d) = absurd (s e)
-finds_one n M N (something s d) (nothing e) = absurd (s e)
-finds_one n M N (something s d) (something t k) = settled_one Exact n (run_of M) (run_of N) d k
+behind_yes : (n front : ℕ) (f : Finding) (a : Answer) → f ≡ yes → SaysBehind n front f a → a ≡ Yes
+behind_yes n front f a e s = told (subst (λ x. SaysBehind n front x a) e s)
+  where
+    plain : {b : Answer} → Says n yes b → b ≡ Yes
+    plain says_yes = refl
 
-local_one : (n : ℕ) (I K : List (List Prim)) (a b : Answer) → IsLocalVerdict n I K a → IsLocalVerdict n I K b → Agree a b
-local_one n I K a b x y =
+    told : {b : Answer} → SaysBehind n front yes b → b ≡ Yes
+    told (plainly p t) = plain t
+
+says_unknown : {n : ℕ} {f : Finding} {a : Answer} → IsUnknown f → Says n f a → status_of a ≡ 2
+says_unknown u says_yes = absurd u
+says_unknown u says_yes_phase = absurd u
+says_unknown u (says_no p q) = absurd u
+says_unknown u (says_no_pair p q x y) = absurd u
+says_unknown u says_stuck = refl
+says_unknown u (says_passed p) = refl
+
+behind_unknown : {n front : ℕ} {f : Finding} {a : Answer} → IsUnknown f → SaysBehind n front f a → status_of a ≡ 2
+behind_unknown u (plainly p s) = says_unknown u s
+behind_unknown u (behind h p q) = absurd u
+
+-- one thing is found, or windows turned what is unknown in the one into the other's yes
+data AreFound (f g : Finding) : Type 0 where
+  same_found : f ≡ g → AreFound f g
+  yes_first : f ≡ yes → IsUnknown g → AreFound f g
+  yes_second : g ≡ yes → IsUnknown f → AreFound f g
+
+still_unknown : {f g : Finding} → f ≡ g → IsUnknown f → IsUnknown g
+still_unknown e u = subst IsUnknown e u
+
+finds_alike : (n : ℕ) (M N : List (List Prim)) {f g : Finding} → Finds n M N f → Finds n M N g → AreFound f g
+finds_alike n M N (nothing e) (nothing h) = same_found refl
+finds_alike n M N (nothing e) (something s d) = absurd (s e)
+finds_alike n M N (nothing e) (windowed s w) = absurd (s e)
+finds_alike n M N (something s d) (nothing e) = absurd (s e)
+finds_alike n M N (something s d) (something t k) = same_found (settled_one Exact n (run_of M) (run_of N) d k)
+finds_alike n M N (something s d) (windowed t w) = yes_second refl (still_unknown (settled_one Exact n (run_of M) (run_of N) w.whole d) w.unknown)
+finds_alike n M N (windowed s w) (nothing e) = absurd (s e)
+finds_alike n M N (windowed s w) (something t d) = yes_first refl (still_unknown (settled_one Exact n (run_of M) (run_of N) w.whole d) w.unknown)
+finds_alike n M N (windowed s w) (windowed t v) = same_found refl
+
+found_alike : (words : List (List ℕ)) (n front : ℕ) (f g : Finding) (a b : Answer) → IsCommand command.SameLocal words → AreFound f g → SaysBehind n front f a → SaysBehind n front g b → AreAlike words a b
+found_alike words n front f g a b w (same_found e) s t = agree (behind_same (subst (λ h. SaysBehind n front h a) e s) t)
+found_alike words n front f g a b w (yes_first e u) s t = turned w (record { yes = behind_yes n front f a e s; unknown = behind_unknown u t })
+found_alike words n front f g a b w (yes_second e u) s t = turned_back w (record { yes = behind_yes n front g b e t; unknown = behind_unknown u s })
+
+local_alike : (words : List (List ℕ)) (n : ℕ) (I K : List (List Prim)) (a b : Answer) → IsCommand command.SameLocal words → IsLocalVerdict n I K a → IsLocalVerdict n I K b → AreAlike words a b
+local_alike words n I K a b w x y =
     let c = cut_once I K x.cut y.cut x.is_cut y.is_cut in
-    let f = finds_one n y.cut.first y.cut.second (subst (λ (k : Cut). Finds n k.first k.second x.finding) c x.found) y.found in
-    behind_same (subst (λ g. SaysBehind n y.cut.front g a) f (subst (λ (k : Cut). SaysBehind n k.front x.finding a) c x.told)) y.told
+    let f = finds_alike n y.cut.first y.cut.second (subst (λ (k : Cut). Finds n k.first k.second x.finding) c x.found) y.found in
+    found_alike words n y.cut.front x.finding y.finding a b w f (subst (λ (k : Cut). SaysBehind n k.front x.finding a) c x.told) y.told
 
-works_one : (c : Command) (n : ℕ) (A B : List (List Prim)) (d : List ℕ) (a b : Answer) → Works c n A B d a → Works c n A B d b → Agree a b
-works_one command.Same n A B d a b x y = verdict_one Exact n (run_of A) (run_of B) a b x y
-works_one command.SamePhase n A B d a b x y = verdict_one Phase n (run_of A) (run_of B) a b x y
-works_one command.SameLocal n A B d a b x y = local_one n A B a b x y
-works_one command.Prove n A B d a b x y = proves_one n (run_of A) (run_of B) a b x y
-works_one command.Replay n A B d a b x y = replay_one n (run_of A) (run_of B) d a b x y
+works_alike : (words : List (List ℕ)) (c : Command) (n : ℕ) (A B : List (List Prim)) (d : List ℕ) (a b : Answer) → IsCommand c words → Works c n A B d a → Works c n A B d b → AreAlike words a b
+works_alike words command.Same n A B d a b w x y = agree (verdict_one Exact n (run_of A) (run_of B) a b x y)
+works_alike words command.SamePhase n A B d a b w x y = agree (verdict_one Phase n (run_of A) (run_of B) a b x y)
+works_alike words command.SameLocal n A B d a b w x y = local_alike words n A B a b w x y
+works_alike words command.Prove n A B d a b w x y = agree (proves_one n (run_of A) (run_of B) a b x y)
+works_alike words command.Replay n A B d a b w x y = agree (replay_one n (run_of A) (run_of B) d a b x y)
 
 -- ---- two texts are read as one thing
 abbrev ok_of : CircuitOf → Result CircuitOf ReadFault
@@ -303,23 +345,23 @@ given_one c bytes a b d a' b' d' s s' g h p q x y =
 works_moved : (c : Command) (n m : ℕ) (A B C D : List (List Prim)) (d d' : List ℕ) (a : Answer) → n ≡ m → A ≡ C → B ≡ D → d ≡ d' → Works c n A B d a → Works c m C D d' a
 works_moved c n m A B C D d d' a e f g h w = subst (λ (k : List ℕ). Works c m C D k a) h (subst (λ (k : List (List Prim)). Works c m C k d a) g (subst (λ (k : List (List Prim)). Works c m k B d a) f (subst (λ (k : ℕ). Works c k A B d a) e w)))
 
-judges_one : (c : Command) (bytes : List ℕ) (x y : Answer) → Judges c bytes x → Judges c bytes y → Agree x y
-judges_one c bytes x y (lacking {line = l} {column = k} h p) (lacking {line = l'} {column = k'} h' p') = placed_agree bytes Separator Separator (length bytes) (length bytes) l k l' k' refl refl p p'
-judges_one c bytes x y (lacking h p) (refused a b d s i q t r) = absurd (parts_or_lacks c bytes a b d s q h)
-judges_one c bytes x y (lacking h p) (judged a b d s n A B q t w) = absurd (parts_or_lacks c bytes a b d s q h)
-judges_one c bytes x y (refused a b d s i q t r) (lacking h p) = absurd (parts_or_lacks c bytes a b d s q h)
-judges_one c bytes x y (refused a b d s i {why = w} {line = l} {column = k} q t r) (refused a' b' d' s' i' {why = w'} {line = l'} {column = k'} q' t' r') =
+judges_alike : (words : List (List ℕ)) (c : Command) (bytes : List ℕ) (x y : Answer) → IsCommand c words → Judges c bytes x → Judges c bytes y → AreAlike words x y
+judges_alike words c bytes x y is (lacking {line = l} {column = k} h p) (lacking {line = l'} {column = k'} h' p') = agree (placed_agree bytes Separator Separator (length bytes) (length bytes) l k l' k' refl refl p p')
+judges_alike words c bytes x y is (lacking h p) (refused a b d s i q t r) = absurd (parts_or_lacks c bytes a b d s q h)
+judges_alike words c bytes x y is (lacking h p) (judged a b d s n A B q t w) = absurd (parts_or_lacks c bytes a b d s q h)
+judges_alike words c bytes x y is (refused a b d s i q t r) (lacking h p) = absurd (parts_or_lacks c bytes a b d s q h)
+judges_alike words c bytes x y is (refused a b d s i {why = w} {line = l} {column = k} q t r) (refused a' b' d' s' i' {why = w'} {line = l'} {column = k'} q' t' r') =
     let e = given_one c bytes a b d a' b' d' s s' (refuses w i) (refuses w' i') q q' t t' in
-    placed_agree bytes w w' i i' l k l' k' (refuses_why e) (refuses_at e) r r'
-judges_one c bytes x y (refused a b d s i {why = w} q t r) (judged a' b' d' s' n A B q' t' v) =
+    agree (placed_agree bytes w w' i i' l k l' k' (refuses_why e) (refuses_at e) r r')
+judges_alike words c bytes x y is (refused a b d s i {why = w} q t r) (judged a' b' d' s' n A B q' t' v) =
     absurd (both_not_refuses (given_one c bytes a' b' d' a b d s' s (both n A B) (refuses w i) q' q t' t))
-judges_one c bytes x y (judged a b d s n A B q t w) (lacking h p) = absurd (parts_or_lacks c bytes a b d s q h)
-judges_one c bytes x y (judged a' b' d' s' n A B q' t' v) (refused a b d s i {why = w} q t r) =
+judges_alike words c bytes x y is (judged a b d s n A B q t w) (lacking h p) = absurd (parts_or_lacks c bytes a b d s q h)
+judges_alike words c bytes x y is (judged a' b' d' s' n A B q' t' v) (refused a b d s i {why = w} q t r) =
     absurd (both_not_refuses (given_one c bytes a' b' d' a b d s' s (both n A B) (refuses w i) q' q t' t))
-judges_one c bytes x y (judged a b d s n A B q t w) (judged a' b' d' s' n' A' B' q' t' w') =
+judges_alike words c bytes x y is (judged a b d s n A B q t w) (judged a' b' d' s' n' A' B' q' t' w') =
     let e = given_one c bytes a b d a' b' d' s s' (both n A B) (both n' A' B') q q' t t' in
     let o = parts_once c bytes a b d s a' b' d' s' q q' in
-    works_one c n' A' B' d' x y (works_moved c n n' A B A' B' d d' x (both_n e) (both_first e) (both_second e) o.document w) w'
+    works_alike words c n' A' B' d' x y is (works_moved c n n' A B A' B' d d' x (both_n e) (both_first e) (both_second e) o.document w) w'
 
 -- ---- words
 -- the first letter of the second word
@@ -393,17 +435,17 @@ kind_of words bytes s s' TooLong d i = long d.command d.is d.deserves
 kind_of words bytes s s' Read d i = absurd i
 kind_of words bytes s s' Memory d i = absurd i
 
-kind_one : (words : List (List ℕ)) (bytes : List ℕ) (a b : Answer) → Kind words bytes a → Kind words bytes b → Agree a b
-kind_one words bytes a b (wrong h) (wrong k) = same_agree Words
-kind_one words bytes a b (wrong h) (long c w l) = absurd (h c w)
-kind_one words bytes a b (wrong h) (read c w l r) = absurd (h c w)
-kind_one words bytes a b (long c w l) (wrong k) = absurd (k c w)
-kind_one words bytes a b (long c w l) (long d v m) = same_agree TooLong
-kind_one words bytes a b (long c w l) (read d v m r) = absurd (omega (arith, l, m))
-kind_one words bytes a b (read c w l r) (wrong k) = absurd (k c w)
-kind_one words bytes a b (read c w l r) (long d v m) = absurd (omega (arith, l, m))
-kind_one words bytes a b (read c w l r) (read d v m q) = judges_one d bytes a b (subst (λ (k : Command). Judges k bytes a) (command_one words c d w v) r) q
+kinds_alike : (words : List (List ℕ)) (bytes : List ℕ) (a b : Answer) → Kind words bytes a → Kind words bytes b → AreAlike words a b
+kinds_alike words bytes a b (wrong h) (wrong k) = agree (same_agree Words)
+kinds_alike words bytes a b (wrong h) (long c w l) = absurd (h c w)
+kinds_alike words bytes a b (wrong h) (read c w l r) = absurd (h c w)
+kinds_alike words bytes a b (long c w l) (wrong k) = absurd (k c w)
+kinds_alike words bytes a b (long c w l) (long d v m) = agree (same_agree TooLong)
+kinds_alike words bytes a b (long c w l) (read d v m r) = absurd (omega (arith, l, m))
+kinds_alike words bytes a b (read c w l r) (wrong k) = absurd (k c w)
+kinds_alike words bytes a b (read c w l r) (long d v m) = absurd (omega (arith, l, m))
+kinds_alike words bytes a b (read c w l r) (read d v m q) = judges_alike words d bytes a b v (subst (λ (k : Command). Judges k bytes a) (command_one words c d w v) r) q
 
 pub one_answer : (words : List (List ℕ)) (told : Option (List ℕ)) → IsOneAnswer words told
 one_answer words None = tt
-one_answer words (Some bytes) = λ r r' s s' a b d e i j. kind_one words bytes a b (kind_of words bytes r r' a d i) (kind_of words bytes s s' b e j)
+one_answer words (Some bytes) = λ r r' s s' a b d e i j. kinds_alike words bytes a b (kind_of words bytes r r' a d i) (kind_of words bytes s s' b e j)

@@ -12,7 +12,7 @@ use Rattle.ps_reach.specs.Judging.{finding_of}
 use Rattle.ps_normal.specs.declared.decision.Decision.{Decision}
 use Rattle.ps_normal.specs.declared.decision.Decision.TheVariants as decision
 use Rattle.ps_local.specs.declared.local.Found.{Found}
-use Rattle.ps_local.specs.declared.local.Found.TheVariants.{Nothing, Decided}
+use Rattle.ps_local.specs.declared.local.Found.TheVariants.{Nothing, Decided, Windows}
 use Rattle.ps_local.specs.declared.local.Local.{Local}
 use Rattle.ps_local.specs.Local.{found_as, IsLocal}
 use Rattle.ps_local.proofs.Telling.{found_finds, finding_tells}
@@ -44,6 +44,9 @@ behind_other n front (verdict.Passed w) a h s = plainly tt s
 -- ---- what was found
 pub behind_nothing : (n front : ℕ) (f : Found) → f ≡ Nothing → SaysBehind n front (found_as f) Yes
 behind_nothing n front f e = subst (λ g. SaysBehind n front (found_as g) Yes) (sym e) (plainly tt says_yes)
+
+pub behind_windows : (n front : ℕ) (f : Found) → f ≡ Windows → SaysBehind n front (found_as f) Yes
+behind_windows n front f e = subst (λ g. SaysBehind n front (found_as g) Yes) (sym e) (plainly tt says_yes)
 
 pub behind_judged : (n front : ℕ) (f : Found) (d : Decision) (j : Judged) (a : Answer) → f ≡ Decided d → d ≡ decision.Judged j → SaysBehind n front (finding_of j.verdict) a → SaysBehind n front (found_as f) a
 behind_judged n front f d j a e g s = subst (λ x. SaysBehind n front (found_as x) a) (sym (e ∙ ap Decided g)) s

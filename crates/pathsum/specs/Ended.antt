@@ -6,8 +6,9 @@ use Rattle.ps_io.specs.Streams.{AppendsPrefix}
 use Rattle.ps_prim.specs.declared.prims.Primitive.{Primitive as Prim}
 use Rattle.qasm_lex.specs.Places.{IsPlace}
 use Rattle.pathsum.specs.declared.answer.Answer.{Answer}
-use Rattle.pathsum.specs.declared.answer.Answer.TheVariants.{Refused, Words, Read, TooLong, Memory}
+use Rattle.pathsum.specs.declared.answer.Answer.TheVariants.{Yes, Refused, Words, Read, TooLong, Memory}
 use Rattle.pathsum.specs.declared.commands.Command.{Command}
+use Rattle.pathsum.specs.declared.commands.Command.TheVariants.{SameLocal}
 use Rattle.pathsum.specs.declared.refusals.Refusal.{Refusal}
 use Rattle.pathsum.specs.declared.refusals.Refusal.TheVariants.{Separator}
 use Rattle.pathsum.specs.Answers.{status_of, text_of}
@@ -67,6 +68,18 @@ pub record Agree (a b : Answer) : Type 0 where
   pub status : status_of a ≡ status_of b
   pub text : text_of a ≡ text_of b
 
--- faults of the outside and want of memory aside, status and bytes are a function of the words and the input
+-- one is yes, and the other unknown
+pub record IsTurned (a b : Answer) : Type 0 where
+  pub yes : a ≡ Yes
+  pub unknown : status_of b ≡ 2
+
+-- two answers to these words agree; or, to `same local`, windows turned what is unknown in the one into the other's yes
+pub data AreAlike (words : List (List ℕ)) (a b : Answer) : Type 0 where
+  agree : Agree a b → AreAlike words a b
+  turned : IsCommand SameLocal words → IsTurned a b → AreAlike words a b
+  turned_back : IsCommand SameLocal words → IsTurned b a → AreAlike words a b
+
+-- faults of the outside and want of memory aside, status and bytes are a function of the words and the input, but for what
+-- windows turn into yes
 abbrev pub IsOneAnswer : List (List ℕ) → Option (List ℕ) → Type 0
-IsOneAnswer words told = IfSome told (λ bytes. (r r' s s' : ℕ) (a b : Answer) → Answers words (Some bytes) r r' a → Answers words (Some bytes) s s' b → IsOfInput a → IsOfInput b → Agree a b)
+IsOneAnswer words told = IfSome told (λ bytes. (r r' s s' : ℕ) (a b : Answer) → Answers words (Some bytes) r r' a → Answers words (Some bytes) s s' b → IsOfInput a → IsOfInput b → AreAlike words a b)

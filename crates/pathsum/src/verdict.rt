@@ -169,6 +169,7 @@ fn found_behind(qubits: u32, front: usize, found: Found) -> Answer
         Found::Nothing => Answer::Yes,
         Found::Decided(Decision::Judged(judged)) => told_behind(qubits, front, judged.verdict),
         Found::Decided(Decision::Passed(evidence)) => Answer::Passed(evidence.passed),
+        Found::Windows => Answer::Yes,
     }
 }
 

@@ -3,6 +3,8 @@ pub mod Fronting
 pub mod Parting
 pub mod Uniqueness
 pub mod Pieces
+pub mod Windowing
+pub mod Aligning
 pub mod Telling
 pub mod Masks
 pub mod Keeping

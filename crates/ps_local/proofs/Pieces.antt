@@ -73,7 +73,7 @@ shares_ends : (n : ℕ) (I K : List (List Prim)) (c : Cut) (h : IsCut I K c) →
 shares_ends n I K c h = record { first = first_map n I K c h; second = second_map n I K c h }
 
 -- ---- qubits
-within_parts : (n : ℕ) (I : List (List Prim)) (k : ℕ) → AllWithin n (run_of I) → AllWithin n (run_of (take k I)) × AllWithin n (run_of (drop k I))
+pub within_parts : (n : ℕ) (I : List (List Prim)) (k : ℕ) → AllWithin n (run_of I) → AllWithin n (run_of (take k I)) × AllWithin n (run_of (drop k I))
 within_parts n I k w = let v = subst (AllWithin n) (parts I k) w in (within_first n (run_of (take k I)) _ v, within_second n (run_of (take k I)) _ v)
 
 within_reverse : (n : ℕ) (L : List (List Prim)) → AllWithin n (run_of L) → AllWithin n (run_of (reverse L))

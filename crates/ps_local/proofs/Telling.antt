@@ -1,5 +1,5 @@
 -- What a finding for what is left of two lists of items claims of the lists.
-use Rattle.std.proofs.Common.{◌≡◌, ℕ, refl, sym, ◌∙◌, subst, List, [], inl}
+use Rattle.std.proofs.Common.{◌≡◌, ℕ, refl, sym, ◌∙◌, subst, List, []}
 use Rattle.ps_prim.specs.declared.prims.Primitive.{Primitive as Prim}
 use Rattle.ps_prim.specs.Maps.{AllWithin, SameMap, DiffersAt}
 use Rattle.ps_rules.specs.declared.steps.Step.{Step}
@@ -17,11 +17,13 @@ use Rattle.ps_cut.proofs.Congruence.{map_reflexive}
 use Rattle.ps_cut.proofs.Cancelling.{not_both}
 use Rattle.ps_cut.proofs.Ends.{ends_differ, frontless_differs}
 use Rattle.ps_local.specs.declared.cut.Cut.{Cut}
-use Rattle.ps_local.specs.declared.local.Found.TheVariants.{Nothing, Decided}
+use Rattle.ps_local.specs.declared.local.Found.{Found}
+use Rattle.ps_local.specs.declared.local.Found.TheVariants.{Nothing, Decided, Windows}
 use Rattle.ps_local.specs.Cuts.{IsCut}
-use Rattle.ps_local.specs.Local.{NothingLeft, Finds, nothing, something, IsLocal, DiffersBehind, Tells}
+use Rattle.ps_local.specs.Local.{NothingLeft, Finds, nothing, something, windowed, IsCompared, IsFound, IsLocal, DiffersBehind, Tells}
 use Rattle.ps_local.specs.LocalLaws.{FoundFinds, FindingTells}
 use Rattle.ps_local.proofs.Pieces.{shared_ends, middles_same, middles_tell}
+use Rattle.ps_local.proofs.Windowing.{settled_justified, windows_tell}
 
 differs_behind : (n : ℕ) (I K : List (List Prim)) (c : Cut) (bits : List ℕ) → IsCut I K c → AllWithin n (run_of I) → DiffersAt n (run_of c.first) (run_of c.second) (point n bits) → DiffersBehind n I K c bits
 differs_behind n I K c bits h w d =
@@ -45,16 +47,13 @@ justified_tells n I K c (no_pair x y) h w j = other_mode j.0
 justified_tells n I K c (stuck S) h w j = j
 justified_tells n I K c (limit e) h w j = j
 
-settled_justified : (n : ℕ) (A B : List Prim) {ss : List Step} {f : Finding} → Settles n A B Exact ss f → IsJustified n A B Exact f
-settled_justified n A B (early {e = e} p) = inl p.over
-settled_justified n A B (both d) = d.justified
-
 same_nothing : (n : ℕ) (M N : List (List Prim)) → M ≡ [] → N ≡ [] → SameMap n (run_of M) (run_of N)
 same_nothing n M N a b = subst (λ (L : List (List Prim)). SameMap n (run_of M) (run_of L)) (a ∙ sym b) (map_reflexive n (run_of M))
 
 found_tells : (n : ℕ) (I K : List (List Prim)) (c : Cut) {f : Finding} → IsCut I K c → AllWithin n (run_of I) → Finds n c.first c.second f → Tells n I K c f
 found_tells n I K c h w (nothing e) = middles_same n I K c h (same_nothing n c.first c.second e.0 e.1)
 found_tells n I K c h w (something {f = f} s d) = justified_tells n I K c f h w (settled_justified n (run_of c.first) (run_of c.second) d)
+found_tells n I K c h w (windowed s x) = middles_same n I K c h (windows_tell n c.first c.second x.windows)
 
 pub finding_tells : FindingTells
 finding_tells n I K c f h w r = found_tells n I K c h w r
@@ -63,17 +62,13 @@ pub found_finds : FoundFinds
 found_finds n M N Nothing h = nothing h
 found_finds n M N (Decided (decision.Judged j)) h = let d = h.1.decided in something h.0 (both d)
 found_finds n M N (Decided (decision.Passed e)) h = something h.0 (early h.1)
+found_finds n M N Windows h = windowed h.0 h.1
 
 -- ---- what was asked
-pub asked : (n : ℕ) (I K M N : List (List Prim)) (c : Cut) (d : Decision) → IsCut I K c → ¬ (NothingLeft c.first c.second) → M ≡ c.first → N ≡ c.second → IsDecision n M N Exact d
-    → IsLocal n I K (record { front = c.front; back = c.back; found = Decided d })
-asked n I K M N c d h s e f r = record {
-  cut = c;
-  is_cut = h;
-  front = refl;
-  back = refl;
-  found = (s, subst (λ (B : List (List Prim)). IsDecision n c.first B Exact d) f (subst (λ (A : List (List Prim)). IsDecision n A N Exact d) e r));
-}
+found_some : (n : ℕ) (M N : List (List Prim)) (f : Found) → ¬ (NothingLeft M N) → IsCompared n M N f → IsFound n M N f
+found_some n M N Nothing s h = absurd h
+found_some n M N (Decided d) s h = (s, h)
+found_some n M N Windows s h = (s, h)
 
-pub can_ask : (n : ℕ) (M M' : List (List Prim)) → M' ≡ M → CanRun n M → CanRun n M'
-can_ask n M M' e r = subst (CanRun n) (sym e) r
+pub asked : (n : ℕ) (I K : List (List Prim)) (c : Cut) (f : Found) → IsCut I K c → ¬ (NothingLeft c.first c.second) → IsCompared n c.first c.second f → IsLocal n I K (record { front = c.front; back = c.back; found = f })
+asked n I K c f h s r = record { cut = c; is_cut = h; front = refl; back = refl; found = found_some n c.first c.second f s r }

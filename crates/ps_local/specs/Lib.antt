@@ -2,5 +2,6 @@ pub mod Exchanges
 pub mod Cuts
 pub mod Qubits
 pub mod Wires
+pub mod Windows
 pub mod Local
 pub mod LocalLaws

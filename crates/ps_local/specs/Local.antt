@@ -16,22 +16,32 @@ use Rattle.ps_normal.specs.Comparing.{Settles, IsDecision}
 use Rattle.ps_local.specs.declared.cut.Cut.{Cut}
 use Rattle.ps_local.specs.declared.local.Local.{Local}
 use Rattle.ps_local.specs.declared.local.Found.{Found}
-use Rattle.ps_local.specs.declared.local.Found.TheVariants.{Nothing, Decided}
+use Rattle.ps_local.specs.declared.local.Found.TheVariants.{Nothing, Decided, Windows}
 use Rattle.ps_local.specs.Cuts.{IsCut}
+use Rattle.ps_local.specs.Windows.{IsWindowed}
 
 -- neither list has an item
 abbrev pub NothingLeft : List (List Prim) → List (List Prim) → Type 0
 NothingLeft M N = (M ≡ []) × (N ≡ [])
 
--- where nothing is left of either list they are one map; else what is left of them comes to this
+-- where nothing is left of either list they are one map; else what is left of them comes to this, or that is neither yes nor
+-- no, but what is left is windows that are one map each
 pub data Finds (n : ℕ) (M N : List (List Prim)) : Finding → Type 0 where
   nothing : NothingLeft M N → Finds n M N yes
   something : {steps : List Step} {f : Finding} → ¬ (NothingLeft M N) → Settles n (run_of M) (run_of N) Exact steps f → Finds n M N f
+  windowed : ¬ (NothingLeft M N) → IsWindowed n M N → Finds n M N yes
 
--- the same of what was computed
+-- the same of what was computed of two lists of which one has an item
+abbrev pub IsCompared : ℕ → List (List Prim) → List (List Prim) → Found → Type 0
+IsCompared n M N Nothing = ⊥
+IsCompared n M N (Decided d) = IsDecision n M N Exact d
+IsCompared n M N Windows = IsWindowed n M N
+
+-- and of what was computed of any two
 abbrev pub IsFound : ℕ → List (List Prim) → List (List Prim) → Found → Type 0
 IsFound n M N Nothing = NothingLeft M N
-IsFound n M N (Decided d) = (¬ (NothingLeft M N)) × IsDecision n M N Exact d
+IsFound n M N (Decided d) = (¬ (NothingLeft M N)) × IsCompared n M N (Decided d)
+IsFound n M N Windows = (¬ (NothingLeft M N)) × IsCompared n M N Windows
 
 -- what was computed, as a finding
 abbrev pub decided_as : Decision → Finding
@@ -41,6 +51,7 @@ decided_as (decision.Passed e) = limit (overrun_of e)
 abbrev pub found_as : Found → Finding
 found_as Nothing = yes
 found_as (Decided d) = decided_as d
+found_as Windows = yes
 
 -- the lists are cut, and what is left of them was compared
 pub record IsLocal (n : ℕ) (I K : List (List Prim)) (l : Local) : Type 0 where

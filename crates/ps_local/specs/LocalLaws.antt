@@ -9,6 +9,7 @@ use Rattle.ps_local.specs.declared.cut.Cut.{Cut}
 use Rattle.ps_local.specs.declared.local.Found.{Found}
 use Rattle.ps_local.specs.Cuts.{IsCut}
 use Rattle.ps_local.specs.Local.{IsFound, found_as, Finds, Tells}
+use Rattle.ps_local.specs.Windows.{AreWindows}
 
 -- two lists have one cut
 abbrev pub CutOnce : Type 0
@@ -24,6 +25,10 @@ MiddlesSame = (n : ℕ) (I K : List (List Prim)) (c : Cut) → IsCut I K c → S
 
 abbrev pub MiddlesTell : Type 0
 MiddlesTell = (n : ℕ) (I K : List (List Prim)) (c : Cut) → IsCut I K c → AllWithin n (run_of I) → SameMap n (run_of I) (run_of K) → SameMap n (run_of c.first) (run_of c.second)
+
+-- lists that are windows, each of which is one map, are one map
+abbrev pub WindowsTell : Type 0
+WindowsTell = (n : ℕ) (M N : List (List Prim)) → AreWindows n M N → SameMap n (run_of M) (run_of N)
 
 -- what was computed of what is left is what is found of it
 abbrev pub FoundFinds : Type 0

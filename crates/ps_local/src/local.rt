@@ -17,4 +17,7 @@ pub enum Found {
     Nothing,
     /// What is left comes to this.
     Decided(Decision),
+    /// What is left comes to neither yes nor no as it stands, but it is windows side by side, each of which is
+    /// one map.
+    Windows,
 }
