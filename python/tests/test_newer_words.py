@@ -13,6 +13,8 @@ from pathsum import program
 from pathsum.circuits import Circuit
 from pathsum.sharing import shared_of
 
+from .test_edits import BITS, adder, lines
+
 HEAD = 'OPENQASM 2.0;\ninclude "qelib1.inc";\nqreg q[2];\n'
 STAND_IN = """#!{python}
 import subprocess, sys
@@ -156,25 +158,39 @@ class Phase(unittest.TestCase):
 
 @unittest.skipUnless(answers("same", "local"), "the program does not know these words yet")
 class Local(unittest.TestCase):
-    """Circuits of 400 gates, with one gate rewritten or changed."""
+    """Adders, whose whole stays unknown, with one gate between the two halves that is rewritten or changed: the items of
+    either half all hang together."""
 
-    FRONT, BACK = "h q;\nt q;\nh q;\n" * 40, "h q;\nt q;\n" * 40
+    WIDE = HEAD.replace("q[2]", f"q[{2 * BITS + 2}]")
+    HALF = len(adder()) // 2 + 1
+    FRONT, BACK = lines(adder()[:HALF]), lines(adder()[HALF:])
+    BACK_ONE = "h q;\nt q;\n" * 40
+
+    def compared(self, first, second):
+        """The answer to what is left, and that to the whole."""
+        first, second = (f"{self.WIDE}{self.FRONT}{between}{self.BACK}" for between in (first, second))
+        return pathsum.compare(first, second), pathsum.same(first, second)
 
     def test_yes(self):
-        first, second = f"{self.FRONT}x q[0];\n{self.BACK}", f"{self.FRONT}h q[0];\nz q[0];\nh q[0];\n{self.BACK}"
-        answer = pathsum.compare(HEAD + first, HEAD + second)
+        on = f"q[{2 * BITS}];\n"
+        answer, whole = self.compared(f"x {on}", f"h {on}z {on}h {on}")
         self.assertEqual((answer.verdict, answer.question, answer.line), ("yes", "local", "yes"))
-        self.assertEqual(answer.shared, pathsum.Shared(240, 160, (124, 124), (124, 126)))
+        line = self.HALF + 4
+        self.assertEqual(answer.shared, pathsum.Shared(self.HALF, self.HALF - 1, (line, line), (line, line + 2)))
+        self.assertEqual(whole.verdict, "unknown")
 
     def test_no(self):
-        """What is left is x against nothing; where the whole is decided too, the answer has an input of it."""
-        answer = pathsum.compare(f"{HEAD}{self.FRONT}x q[0];\n{self.BACK}", HEAD + self.FRONT + self.BACK)
-        self.assertEqual(answer.verdict, "no")
-        self.assertIn(answer.line, ("no 00", "no 00 behind 320"))
+        """What is left is t against s; no input of the whole is known, so the state behind the front is told."""
+        on = f"q[{2 * BITS}];\n"
+        answer, whole = self.compared(f"t {on}", f"s {on}")
+        state = "0" * (2 * BITS) + "10"
+        self.assertEqual((answer.verdict, answer.line), ("no", f"no {state} behind {self.HALF}"))
+        self.assertEqual((answer.behind, answer.shared.front, answer.shared.back), (self.HALF, self.HALF, self.HALF - 1))
+        self.assertEqual(whole.verdict, "unknown")
 
     def test_no_in_front(self):
         """Nothing is alike in front, so the input is one of the whole."""
-        back = self.BACK.replace("q;", "q[0];")
+        back = self.BACK_ONE.replace("q;", "q[0];")
         answer = pathsum.compare(f"{HEAD}x q[0];\n{back}", HEAD + back)
         self.assertEqual((answer.verdict, answer.line, answer.behind), ("no", "no 00", 0))
 
