@@ -1,7 +1,6 @@
 //! Which segments the seats are computing.
-ghost use Rattle.std.specs.Prelude.{◌≡◌, ◌^◌, ◌<◌};
+ghost use Rattle.std.specs.Prelude.{◌≡◌, replicate, None};
 ghost use Rattle.ps_journal.specs.Retiring.{claims_on};
-ghost use Rattle.ps_journal.specs.Keeping.{same_place};
 ghost use Rattle.ps_book.specs.Seats.{is_on};
 
 use ps_journal::Claim;
@@ -15,7 +14,9 @@ pub struct Claims {
 
 impl Claims {
     /// No seat has a claim.
-    pub(crate) fn new() -> Claims {
+    pub(crate) fn new() -> Claims
+        ensures { result.seats ≡ replicate 64 None }
+    {
         Claims { seats: [None; 64] }
     }
 

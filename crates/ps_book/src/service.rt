@@ -1,5 +1,7 @@
 //! What the service holds.
+ghost use Rattle.ps_journal.specs.State.{empty};
 ghost use Rattle.ps_views.specs.Fields.{fields, IsSound, IsSound-prop};
+ghost use Rattle.ps_views.specs.Stands.{Stands};
 
 use crate::claims::Claims;
 use ps_journal::Pin;
@@ -28,7 +30,9 @@ pub(crate) const MOST_TERMS: u64 = 8_388_608;
 
 impl Service {
     /// No circuit, no pin and no claim.
-    pub(crate) fn new(alloc: Global) -> Service {
+    pub(crate) fn new(alloc: Global) -> Service
+        ensures { Stands (fields result.versions result.tables.items result.items.items result.pins result.claims.seats result.terms) empty }
+    {
         Service {
             versions: Versions::new(alloc),
             tables: Vec::new(alloc),
