@@ -5,7 +5,6 @@ use Rattle.std.proofs.Props.{props}
 use Rattle.std.proofs.lemmas.List.{length-append}
 use Rattle.std.proofs.lemmas.List.Sums.{count_by-le-length}
 use mathlib.Core.Logic.{∥∥₁_map, ∥∥₁_elim}
-use mathlib.Core.Option.{Path-none_prop}
 use Rattle.seg_tree.specs.Trees.{Tree, leaf, branch}
 use Rattle.seg_tree.specs.Table.{root_tree}
 use Rattle.ps_script.specs.declared.name.Place.{Place}
@@ -158,7 +157,11 @@ module _ (f : Fields) (sound : IsSound f) (t : State) (p : Place) where
           absurd (none_some v.held (sym (none_told e) ∙ held_seen f p c x v))
 
   pub misses_none : None ≡ held_questions.missing f.versions (held_at f.versions p) → ∥ Stands f t ∥₁ → HasNone t p.name p.version
-  misses_none e w c at = ∥∥₁_elim w (Path-none_prop (version_at c p.version)) (λ s. found_none s e c at)
+  misses_none e w c at = by (version_at c p.version) refl
+    where
+      by : (o : Option Version) → version_at c p.version ≡ o → version_at c p.version ≡ None
+      by None q = q
+      by (Some x) q = absurd (∥∥₁_elim w nothing_prop (λ s. some_none x (sym q ∙ found_none s e c at)))
 
   pub misses : (r : Option ℕ) → r ≡ held_questions.missing f.versions (held_at f.versions p) → ∥ Stands f t ∥₁ → Misses t p.name p.version r
   misses None e w = misses_none e w

@@ -1,5 +1,5 @@
 //! Which segments the seats are computing.
-ghost use Rattle.std.specs.Prelude.{◌≡◌, replicate, None};
+ghost use Rattle.std.specs.Prelude.{◌≡◌, length, replicate, None};
 ghost use Rattle.ps_journal.specs.Retiring.{claims_on};
 ghost use Rattle.ps_book.specs.Seats.{is_on};
 
@@ -22,6 +22,7 @@ impl Claims {
 
     /// The seats with a claim on a version: bit s is seat s.
     pub(crate) fn on(&self, place: &Place) -> u64
+        requires { length self.now.seats ≡ 64 }
         ensures { result ≡ claims_on place.now self.now.seats }
     {
         let mut bits = 0;
