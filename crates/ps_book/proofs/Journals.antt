@@ -1,6 +1,6 @@
 -- Steps of the service, and a journal with one entry more.
 use Rattle.std.proofs.Common.{◌≡◌, ℕ, List, [], ◌∷◌, ◌++◌, length, refl, sym, ap, ◌∙◌, subst, ◌⊎◌, inl, inr}
-use Rattle.std.specs.Prelude.{Bool, Option, Some, None}
+use Rattle.std.specs.Prelude.{Bool, Option, Some, None, replicate}
 use mathlib.Core.Logic.{∥∥₁_map}
 use Rattle.std.specs.declared.sync.Arc.{Arc}
 use Rattle.std.specs.declared.alloc.Global.{Global}
@@ -17,7 +17,14 @@ use Rattle.ps_journal.specs.Step.{starved, Serves, Step, serves, wants}
 use Rattle.ps_journal.specs.Retiring.{Retires}
 use Rattle.ps_journal.specs.Pinning.{Pins}
 use Rattle.ps_journal.specs.History.{Entry, LeadsTo, IsLegal, start, next}
-use Rattle.ps_views.specs.Fields.{Fields}
+use Rattle.qasm_expand.specs.declared.tables.Table.{Table}
+use Rattle.ps_prim.specs.declared.items.Item.{Item as AnItem}
+use Rattle.ps_versions.specs.Held.{Held}
+use Rattle.ps_journal.specs.declared.seats.Pin.{Pin}
+use Rattle.ps_journal.specs.declared.seats.Claim.{Claim}
+use Rattle.ps_views.specs.declared.filed.Filed.{Filed}
+use Rattle.ps_views.specs.Fields.{Fields, fields}
+use Rattle.ps_views.proofs.Beginning.{fresh_fields}
 use Rattle.ps_views.specs.Stands.{Stands, Leaves}
 use Rattle.ps_book.specs.Lawful.{IsLawful}
 use Rattle.ps_book.specs.Wanting.{Starves, OpensOr, SplicesOr, NextsOr, PublishesOr, AnswersOr, ReadsOr, SumsOr}
@@ -90,3 +97,9 @@ lawful_start f s = ∣ record { state = empty; leads = start; stands = s } ∣�
 
 pub legal_of : (f : Fields) (es : List Entry) → ∥ IsLawful f es ∥₁ → IsLegal es
 legal_of f es w = ∥∥₁_map w (λ h. (h.state, h.leads))
+
+-- ---- fields with nothing in them
+pub nothing_held : (h : Held Filed) (tables : List (Arc Table Global)) (items : List (Arc AnItem Global)) (pins : List (Option Pin)) (claims : List (Option Claim))
+    → tables ≡ [] → items ≡ [] → pins ≡ replicate 64 None → claims ≡ replicate 64 None → fields h tables items pins claims 0 ≡ fresh_fields h
+nothing_held h tables items pins claims a b c d =
+    ap (λ x. fields h x items pins claims 0) a ∙ ap (λ x. fields h [] x pins claims 0) b ∙ ap (λ x. fields h [] [] x claims 0) c ∙ ap (λ x. fields h [] [] (replicate 64 None) x 0) d

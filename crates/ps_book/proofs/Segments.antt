@@ -83,3 +83,7 @@ module _ (items : List Item) (those : List Item) where
       at (inl w) = inl (record { segment = k.segment; within = w; same = k.same })
       at (inr (inl w)) = inr (record { segment = k.segment; within = w; same = k.same })
       at (inr (inr w)) = absurd (other (k.same ∙ ap (λ u. run_of_leaf items (run u)) (sym w ∙ sym e)))
+
+  pub right_side : (l r : Tree ℕ) → (HasRun items l those → ⊥) → HasRun items l those ⊎ HasRun items r those → HasRun items r those
+  right_side l r off (inl h) = absurd (off h)
+  right_side l r off (inr h) = h

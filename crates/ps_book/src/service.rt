@@ -1,4 +1,5 @@
 //! What the service holds.
+ghost use Rattle.std.specs.Prelude.{◌≡◌, replicate, None};
 ghost use Rattle.ps_journal.specs.State.{empty};
 ghost use Rattle.ps_views.specs.Fields.{fields, IsSound, IsSound-prop};
 ghost use Rattle.ps_views.specs.Stands.{Stands};
@@ -37,7 +38,7 @@ impl Service {
             versions: Versions::new(alloc),
             tables: Vec::new(alloc),
             items: Vec::new(alloc),
-            pins: [None; 64],
+            pins: no_pins(),
             claims: Claims::new(),
             terms: 0,
         }
@@ -47,4 +48,11 @@ impl Service {
     pub(crate) fn alloc(&self) -> Global {
         *self.items.allocator()
     }
+}
+
+/// No seat has pinned anything.
+fn no_pins() -> [Option<Pin>; 64]
+    ensures { result ≡ replicate 64 None }
+{
+    [None; 64]
 }
