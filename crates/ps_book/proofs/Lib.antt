@@ -3,3 +3,4 @@ pub mod ItemRuns
 pub mod Segments
 pub mod Journals
 pub mod MissingLaws
+pub mod VersionCounts

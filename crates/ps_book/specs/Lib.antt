@@ -5,3 +5,4 @@ pub mod Counts
 pub mod Lawful
 pub mod Books
 pub mod Wanting
+pub mod Numbers

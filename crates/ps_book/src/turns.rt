@@ -4,6 +4,7 @@ ghost use Rattle.ps_journal.specs.State.{State};
 ghost use Rattle.ps_journal.specs.Step.{Step};
 ghost use Rattle.ps_views.specs.Stands.{Stands, Leaves};
 ghost use Rattle.ps_book.specs.Services.{fields_of};
+ghost use Rattle.ps_book.specs.Numbers.{HasNumbers};
 
 use crate::book::Book;
 use crate::service::Service;
@@ -15,7 +16,8 @@ use ps_script::Place;
 impl Service {
     /// Does one command of a seat, as entry `number`.
     fn serve(&mut self, number: u32, seat: u32, cmd: &Cmd) -> Told
-        requires { seat < 64 }
+        requires near { seat < 64 }
+        requires few { HasNumbers (fields_of self.old) }
         ensures { (t : State) → Stands (fields_of self.old) t → Leaves (λ new. Step t number seat cmd.now result.reply new) (fields_of self.new) }
     {
         match cmd {

@@ -6,6 +6,7 @@ use Rattle.ps_views.specs.Stands.{Stands, Leaves}
 use Rattle.ps_book.specs.Lawful.{IsLawful}
 use Rattle.ps_book.specs.Services.{fields_of}
 use Rattle.ps_book.proofs.Journals.{lawful_more, legal_of}
+use Rattle.ps_book.proofs.VersionCounts.{few_versions}
 use Rattle.ps_book.proofs.turns.BookObject.apply.Goals as goal
 use Rattle.ps_book.proofs.turns.BookObject.apply.Goals.{After-push_reserved}
 
@@ -26,6 +27,9 @@ keeps c =
     let old = c.args.self.now in
     let f = fields_of c.serve-reply.new.self in
     subst (λ es. ∥ IsLawful f es ∥₁) (sym c.push_reserved.ensures.items) (lawful_more (fields_of old.service) f old.journal.items (entry c) (step c) old.lawful)
+
+pub serve-reply-requires-clause-few : goal.serve-reply-requires-clause-few
+serve-reply-requires-clause-few c = let old = c.args.self.now in few_versions (fields_of old.service) old.journal.items old.service.sound old.few old.lawful
 
 pub invariant_of-self : goal.invariant_of-self
 invariant_of-self c =
