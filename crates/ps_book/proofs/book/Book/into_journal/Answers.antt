@@ -1,0 +1,8 @@
+use Rattle.ps_book.specs.Services.{fields_of}
+use Rattle.ps_book.proofs.Journals.{legal_of}
+use Rattle.ps_book.proofs.book.Book.into_journal.Goals as goal
+
+pub returns-clause-legal : goal.returns-clause-legal
+returns-clause-legal c =
+    let b = c.args.self in
+    legal_of (fields_of b.service) b.journal.items b.lawful
