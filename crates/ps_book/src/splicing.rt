@@ -1,12 +1,16 @@
 //! How circuits get their next versions.
-ghost use Rattle.std.specs.Prelude.{◌≡◌, true};
+ghost use Rattle.std.specs.Prelude.{ℕ, ◌≡◌, ◌≤◌, ◌+◌, ◌-◌, true, List, map, length, vec_len, Some, IfOk, OnErr};
+ghost use Rattle.ps_reach.specs.Runs.{prims_of};
+ghost use Rattle.ps_versions.specs.Held.{Circuit};
+ghost use Rattle.ps_versions.specs.Lookup.{circuit_at};
 ghost use Rattle.ps_journal.specs.Plain.{is_plain};
 ghost use Rattle.ps_journal.specs.State.{State};
 ghost use Rattle.ps_views.specs.Stands.{Stands, Leaves};
 ghost use Rattle.ps_book.specs.Services.{fields_of};
 ghost use Rattle.ps_book.specs.Wanting.{SplicesOr};
+ghost use Rattle.ps_book.specs.Additions.{HasRange, AddsVersion, ReadsAs};
 
-use crate::opening::{add_items, fault_reply, make_room};
+use crate::opening::{add_items, fault_reply, look_at, make_room};
 use crate::service::Service;
 use ps_journal::Reply;
 use ps_prim::Item;
@@ -49,13 +53,21 @@ impl Service {
                 if from > to || to > len {
                     return Reply::Span(len);
                 }
+                if about.latest == u32::MAX {
+                    // no history is so long that a circuit has so many versions
+                    return Reply::Memory;
+                }
                 self.splice_block(name, Range { from, to, len }, block)
             }
         }
     }
 
     /// The same, where the range is in the latest version.
-    fn splice_block(&mut self, name: Name, range: Range, block: &Text) -> Reply {
+    fn splice_block(&mut self, name: Name, range: Range, block: &Text) -> Reply
+        requires { HasRange (fields_of self.old) name range.from range.to range.len }
+        ensures leaves { (t : State) (c : Circuit) → Stands (fields_of self.old) t → circuit_at self.old.versions.circuits name ≡ Some c → Leaves (λ new. SplicesOr t name (length c.versions) range.from range.to block.now result new) (fields_of self.new) }
+        ensures plain { is_plain result ≡ true }
+    {
         match self.versions.place_of(&name) {
             None => unreachable!(),
             Some(index) => match items(self.alloc(), &self.tables[index], block.as_slice()) {
@@ -66,7 +78,12 @@ impl Service {
     }
 
     /// The same with the items of the block.
-    fn splice_items(&mut self, name: Name, range: Range, items: Vec<Arc<Item>>) -> Reply {
+    fn splice_items(&mut self, name: Name, range: Range, items: Vec<Arc<Item>>) -> Reply
+        requires range { HasRange (fields_of self.old) name range.from range.to range.len }
+        requires few { vec_len items ≤ 65536 }
+        ensures leaves { (t : State) (c : Circuit) (block : List ℕ) → Stands (fields_of self.old) t → circuit_at self.old.versions.circuits name ≡ Some c → ReadsAs t name (length c.versions) range.from range.to block (map prims_of items.items) → Leaves (λ new. SplicesOr t name (length c.versions) range.from range.to block result new) (fields_of self.new) }
+        ensures plain { is_plain result ≡ true }
+    {
         let count = range.len - (range.to - range.from) + items.len() as u32;
         if count > 65_536 {
             return Reply::TooLong(count);
@@ -89,9 +106,16 @@ impl Service {
         name: Name,
         range: Range,
         items: Vec<Arc<Item>>,
-    ) -> Result<u32, AllocError> {
+    ) -> Result<u32, AllocError>
+        requires range { HasRange (fields_of self.old) name range.from range.to range.len }
+        requires few { vec_len items ≤ 65536 }
+        requires fits { range.len - (range.to - range.from) + vec_len items ≤ 65536 }
+        ensures added { IfOk result (λ number. AddsVersion (fields_of self.old) name range.from range.to (map prims_of items.items) number (fields_of self.new)) }
+        ensures err { OnErr result (fields_of self.new ≡ fields_of self.old) }
+    {
         let numbers = make_room(self.alloc(), &mut self.items, items.len())?;
         let version = self.versions.splice(name, range.from, range.to, &numbers)?;
+        look_at(&self.versions, &Place { name, version });
         add_items(&mut self.items, items);
         Ok(version)
     }
