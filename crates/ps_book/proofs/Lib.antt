@@ -1,0 +1,4 @@
+pub mod OpenedCircuits
+pub mod SplicedVersions
+pub mod ShownItems
+pub mod PublishedRecords
