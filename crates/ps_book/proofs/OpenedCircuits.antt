@@ -4,21 +4,21 @@ use Rattle.std.specs.Prelude.{Option, Some, None, map, Ok, Err}
 use Rattle.std.specs.List.{range_with_len}
 use Rattle.std.specs.declared.sync.Arc.{Arc}
 use Rattle.std.specs.declared.alloc.Global.{Global}
-use Rattle.seg_tree.specs.Trees.{Tree}
+use Rattle.seg_tree.specs.Trees.{Tree, build}
 use Rattle.ps_prim.specs.declared.items.Item.{Item as AnItem}
 use Rattle.qasm_expand.specs.declared.tables.Table.{Table}
 use Rattle.qasm_expand.specs.declared.fault.FaultName.{FaultName}
 use Rattle.qasm_expand.specs.declared.fault.ReadFault.{ReadFault}
 use Rattle.qasm_expand.specs.declared.fault.ReadFault.TheVariants.{Fault, Memory}
 use Rattle.qasm_expand.specs.Circuits.{TableOf, CircuitOf, ReadsText}
-use Rattle.qasm_expand.specs.Reading.{table_in}
+use Rattle.qasm_expand.specs.Reading.{table_in, CircuitTold}
 use Rattle.ps_script.specs.declared.name.Place.{Place}
 use Rattle.ps_versions.specs.Held as held
 use Rattle.ps_versions.specs.Held.{Held}
 use Rattle.ps_versions.specs.Lookup as lookup
 use Rattle.ps_versions.specs.Told.{about}
 use Rattle.ps_versions.specs.declared.data.About.{About}
-use Rattle.ps_versions.specs.Opened.{fresh_version}
+use Rattle.ps_versions.specs.Opened.{Opens, fresh_version}
 use Rattle.ps_versions.specs.Questions as questions
 use Rattle.ps_journal.specs.declared.seats.Pin.{Pin}
 use Rattle.ps_journal.specs.declared.seats.Claim.{Claim}
@@ -26,7 +26,9 @@ use Rattle.ps_journal.specs.declared.replies.Reply.{Reply}
 use Rattle.ps_journal.specs.declared.replies.Reply.TheVariants as reply
 use Rattle.ps_journal.specs.State.{Circuit, State, circuit_at}
 use Rattle.ps_journal.specs.Segments.{missing}
-use Rattle.ps_journal.specs.Opening.{Opens, name_taken, circuits_full, bad, opens, first_version, opened}
+use Rattle.ps_journal.specs.Opening as journal
+use Rattle.ps_journal.specs.Opening.{name_taken, circuits_full, bad, opens, first_version, opened}
+use Rattle.ps_views.specs.Older.{IsForest}
 use Rattle.ps_views.specs.Views.{items_in, tables_in, version_of, circuits_of}
 use Rattle.ps_views.specs.Fields.{Fields, fields, IsSound, held_at}
 use Rattle.ps_views.specs.Stands.{Stands, Leaves}
@@ -34,6 +36,7 @@ use Rattle.ps_views.specs.declared.filed.Filed.{Filed}
 use Rattle.ps_views.proofs.Lists.{map_append}
 use Rattle.ps_views.proofs.Lookups.{circuit_held, circuit_seen, no_circuit, mapped_length}
 use Rattle.ps_views.proofs.Replies.{circuit_told}
+use Rattle.ps_views.proofs.Plantings.{forest_planted}
 use Rattle.ps_views.proofs.Missing.{missing_told}
 use Rattle.ps_views.proofs.Openings.{with_opened, sound_opened, stands_opened, version_new}
 use Rattle.ps_book.specs.Wanting.{Starves, OpensOr}
@@ -56,7 +59,7 @@ module _ (f : Fields) (t : State) (sound : IsSound f) (so : Stands f t) (i : ℕ
   is_taken a e =
       let c = circuit_told (lookup.circuit_at f.versions.circuits name) a e in
       let at = circuit_held f t so sound.tabled name c.0 c.1 in
-      inl (subst (λ n. Opens t i name text (reply.NameTaken n) t) (sym c.4) (name_taken (circuit_seen f t so sound.tabled name at.0 at.1 c.0 at.2)))
+      inl (subst (λ n. journal.Opens t i name text (reply.NameTaken n) t) (sym c.4) (name_taken (circuit_seen f t so sound.tabled name at.0 at.1 c.0 at.2)))
 
   module _ (free : lookup.circuit_at f.versions.circuits name ≡ None) where
     -- LAW: there are 256 circuits
@@ -69,12 +72,17 @@ module _ (f : Fields) (t : State) (sound : IsSound f) (so : Stands f t) (i : ℕ
 
       -- LAW: the text has a fault
       pub is_bad : (n : FaultName) (at : ℕ) (r : Reply) → ReadsText text (Err (Fault n at)) → TellsBad text n at r → OpensOr t i name text r t
-      is_bad n at r reads told = inl (subst (λ x. Opens t i name text x t) (sym told.reply) (bad (no_circuit f t so sound.tabled name free) fewer reads told.place))
+      is_bad n at r reads told = inl (subst (λ x. journal.Opens t i name text x t) (sym told.reply) (bad (no_circuit f t so sound.tabled name free) fewer reads told.place))
+
+      -- LAW: the text has a fault, or memory was wanting
+      pub is_faulty : (fault : ReadFault) (r : Reply) → CircuitTold (Err fault) (ReadsText text) → TellsFault text fault r → OpensOr t i name text r t
+      is_faulty (Fault n at) r reads told = is_bad n at r reads told
+      is_faulty Memory r reads told = inr (record { reply = told; state = refl })
 
       -- LAW: the text was read
       pub is_read : (c : CircuitOf) (r : Reply) (new : State) → ReadsText text (Ok c) → OpensRead t i name c r new → OpensOr t i name text r new
       is_read c r new reads (inl o) =
-          inl (subst (λ x. Opens t i name text x new) (sym o.reply) (subst (λ s. Opens t i name text (reply.Opened (missing t.published (first_version t.names c).tree)) s) (sym o.state)
+          inl (subst (λ x. journal.Opens t i name text x new) (sym o.reply) (subst (λ s. journal.Opens t i name text (reply.Opened (missing t.published (first_version t.names c).tree)) s) (sym o.state)
           (opens (no_circuit f t so sound.tabled name free) fewer reads)))
       is_read c r new reads (inr s) = inr s
 
@@ -87,6 +95,23 @@ fields_opened versions new ts is more table pins claims terms =
 
 pub numbers_of : (is more : List (Arc AnItem Global)) (n m : ℕ) → n ≡ length is → m ≡ length more → range_with_len n m ≡ range_with_len (length (items_in is)) (length (items_in more))
 numbers_of is more n m e h = ap₂ range_with_len (e ∙ sym (mapped_length _ is)) (h ∙ sym (mapped_length _ more))
+
+module _ (versions new : Held Filed) (ts : List (Arc Table Global)) (is : List (Arc AnItem Global)) (pins : List (Option Pin)) (claims : List (Option Claim)) (terms : ℕ) where
+  -- LAW: a circuit was added
+  pub adds_opened : (later : List (Arc Table Global)) (grown more : List (Arc AnItem Global)) (table : Arc Table Global) (name numbers : List ℕ) (c : CircuitOf) (entry : ℕ)
+      → IsSound (fields versions ts is pins claims terms) → later ≡ ts ++ table ∷ [] → grown ≡ is ++ more → items_in more ≡ c.items → table_in table.value ≡ c.table
+      → numbers ≡ range_with_len (length is) (length more) → Opens versions new name c.qubits numbers entry
+      → ((r : ℕ) → lookup.root_of (held_at new (record { name = name; version = 1 })) ≡ Some r → IsForest new.nodes)
+      → AddsCircuit (fields versions ts is pins claims terms) name c entry (fields new later grown pins claims terms)
+  adds_opened later grown more table name numbers c entry sound t g items gates n o looked =
+      let told : numbers ≡ range_with_len (length (items_in is)) (length c.items) = n ∙ numbers_of is more (length is) (length more) refl refl ∙ ap (λ xs. range_with_len (length (items_in is)) (length xs)) items in
+      let opens : Opens versions new name c.qubits (range_with_len (length (items_in is)) (length c.items)) entry = subst (λ ks. Opens versions new name c.qubits ks entry) told o in
+      record {
+        opens = opens;
+        forest = forest_planted versions.nodes new.nodes (build (range_with_len (length (items_in is)) (length c.items))) opens.root opens.planted sound.grown (λ r e. looked r (ap lookup.root_of opens.version ∙ e));
+        fields = ap₂ (λ xs ys. fields new xs ys pins claims terms) t g ∙ fields_opened versions new ts is more table pins claims terms
+            ∙ ap₂ (λ x xs. record { versions = new; tables = tables_in ts ++ x ∷ []; items = items_in is ++ xs; pins = pins; claims = claims; terms = terms }) gates items;
+      }
 
 module _ (f : Fields) (sound : IsSound f) (name : List ℕ) (c : CircuitOf) (entry : ℕ) (free : lookup.circuit_at f.versions.circuits name ≡ None) (width : (1 ≤ c.qubits) × (c.qubits ≤ 64)) where
   -- LAW: they are sound

@@ -10,9 +10,10 @@ use Rattle.seg_tree.specs.Table.{root_tree}
 use Rattle.ps_prim.specs.declared.items.Item.{Item as AnItem}
 use Rattle.qasm_expand.specs.declared.tables.Table.{Table}
 use Rattle.qasm_expand.specs.declared.fault.FaultName.{FaultName}
-use Rattle.qasm_expand.specs.declared.fault.ReadFault.TheVariants.{Fault}
+use Rattle.qasm_expand.specs.declared.fault.ReadFault.{ReadFault}
+use Rattle.qasm_expand.specs.declared.fault.ReadFault.TheVariants.{Fault, Memory}
 use Rattle.qasm_expand.specs.Circuits.{TableOf, ReadsBlock}
-use Rattle.qasm_expand.specs.Reading.{table_in}
+use Rattle.qasm_expand.specs.Reading.{table_in, ItemsTold}
 use Rattle.ps_versions.specs.Held as held
 use Rattle.ps_versions.specs.Held.{Held}
 use Rattle.ps_versions.specs.Lives.{IsLive}
@@ -21,6 +22,7 @@ use Rattle.ps_versions.specs.Lookup.{place_of, version_in, root_of}
 use Rattle.ps_versions.specs.Told.{about}
 use Rattle.ps_versions.specs.declared.data.About.{About}
 use Rattle.ps_versions.specs.Opened.{fresh_version}
+use Rattle.ps_versions.specs.Spliced as tables
 use Rattle.ps_versions.specs.Spliced.{latest_of as latest_number, latest_root, latest_tree, SplicesAt}
 use Rattle.ps_versions.specs.Questions as questions
 use Rattle.ps_journal.specs.declared.seats.Pin.{Pin}
@@ -32,6 +34,7 @@ use Rattle.ps_journal.specs.Segments.{missing}
 use Rattle.ps_journal.specs.Splicing as splicing
 use Rattle.ps_journal.specs.Splicing.{Splices, Replaces, replaced, next_version, committed}
 use Rattle.ps_journal.proofs.Mapping.{run-mapped_maybe}
+use Rattle.ps_views.specs.Older.{IsForest}
 use Rattle.ps_views.specs.Views.{item_at, items_in, tables_in, version_of, circuit_of}
 use Rattle.ps_views.specs.Fields.{Fields, fields, IsSound, held_at}
 use Rattle.ps_views.specs.Finds.{IsAt}
@@ -41,10 +44,12 @@ use Rattle.ps_views.proofs.Alike.{get_there, get_within}
 use Rattle.ps_views.proofs.Lists.{map_append}
 use Rattle.ps_views.proofs.Lookups.{circuit_held, circuit_seen, no_circuit, latest_seen, version_some, mapped_length}
 use Rattle.ps_views.proofs.Replies.{circuit_told, no_circuit_told}
+use Rattle.ps_views.proofs.Plantings.{forest_planted}
 use Rattle.ps_views.proofs.Missing.{missing_told}
 use Rattle.ps_views.proofs.Splicings.{with_spliced, sound_spliced, stands_spliced, version_next}
 use Rattle.ps_book.specs.Wanting.{Starves, SplicesOr}
-use Rattle.ps_book.specs.Additions.{TellsBad, HasRange, AddsVersion, ReadsAs}
+use Rattle.ps_book.proofs.OpenedCircuits.{numbers_of}
+use Rattle.ps_book.specs.Additions.{TellsBad, TellsFault, HasRange, AddsVersion, ReadsAs}
 
 -- ---- where the latest version is
 live_there : (o : Option held.Version) → IsLive o → (v : held.Version) × (o ≡ Some v) × (v.retired ≡ None)
@@ -139,6 +144,12 @@ module _ (f : Fields) (name : List ℕ) (from to len : ℕ) (h : HasRange f name
         → TellsBad block n at r → SplicesOr t name (length h.circuit.versions) from to block r t
     splice_bad block i gates n at r is reads told = inl (subst (λ x. Splices t name (length h.circuit.versions) from to block x t) (sym told.reply) (splicing.bad (replaces_seen i gates is) reads told.place))
 
+    -- LAW: the block has a fault, or memory was wanting
+    pub splice_faulty : (block : List ℕ) (i : ℕ) (gates : TableOf) (fault : ReadFault) (r : Reply) → IsAt f.tables f.versions.circuits name i gates h.circuit → ItemsTold (Err fault) (ReadsBlock gates block)
+        → TellsFault block fault r → SplicesOr t name (length h.circuit.versions) from to block r t
+    splice_faulty block i gates (Fault n at) r is reads told = splice_bad block i gates n at r is reads told
+    splice_faulty block i gates Memory r is reads told = inr (record { reply = told; state = refl })
+
     -- LAW: the block was read
     pub reads_as : (block : List ℕ) (items : List Item) (i : ℕ) (gates : TableOf) → IsAt f.tables f.versions.circuits name i gates h.circuit → ReadsBlock gates block (Ok items)
         → ReadsAs t name (length h.circuit.versions) from to block items
@@ -210,6 +221,22 @@ sound_next f name from to len number more g sound h s =
 pub fields_spliced : (versions new : Held Filed) (ts : List (Arc Table Global)) (is more : List (Arc AnItem Global)) (pins : List (Option Pin)) (claims : List (Option Claim)) (terms : ℕ)
     → fields new ts (is ++ more) pins claims terms ≡ record (fields versions ts is pins claims terms) { versions = new; items = items_in is ++ items_in more }
 fields_spliced versions new ts is more pins claims terms = ap (λ ys. record { versions = new; tables = tables_in ts; items = ys; pins = pins; claims = claims; terms = terms }) (map_append _ is more)
+
+module _ (versions new : Held Filed) (ts : List (Arc Table Global)) (is : List (Arc AnItem Global)) (pins : List (Option Pin)) (claims : List (Option Claim)) (terms : ℕ) where
+  -- LAW: a version was added
+  pub adds_spliced : (grown more : List (Arc AnItem Global)) (name numbers : List ℕ) (from to number : ℕ)
+      → IsSound (fields versions ts is pins claims terms) → grown ≡ is ++ more → numbers ≡ range_with_len (length is) (length more) → tables.Splices versions new name from to numbers number
+      → ((r : ℕ) → root_of (held_at new (record { name = name; version = number })) ≡ Some r → IsForest new.nodes)
+      → AddsVersion (fields versions ts is pins claims terms) name from to (items_in more) number (fields new ts grown pins claims terms)
+  adds_spliced grown more name numbers from to number sound g n s looked =
+      let ks = range_with_len (length (items_in is)) (length (items_in more)) in
+      let told : numbers ≡ ks = n ∙ numbers_of is more (length is) (length more) refl refl in
+      let splices : tables.Splices versions new name from to ks number = subst (λ xs. tables.Splices versions new name from to xs number) told s in
+      record {
+        splices = splices;
+        forest = forest_planted versions.nodes new.nodes (splice (latest_tree versions (place_of versions.circuits name)) from to ks) splices.at.root splices.at.planted sound.grown (λ r e. looked r (ap root_of splices.version ∙ e));
+        fields = ap (λ ys. fields new ts ys pins claims terms) g ∙ fields_spliced versions new ts is more pins claims terms;
+      }
 
 -- ---- refusals
 module _ (f : Fields) (t : State) (sound : IsSound f) (so : Stands f t) (name : List ℕ) (base from to : ℕ) (block : List ℕ) where

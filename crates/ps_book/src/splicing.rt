@@ -8,6 +8,7 @@ ghost use Rattle.ps_journal.specs.State.{State};
 ghost use Rattle.ps_views.specs.Stands.{Stands, Leaves};
 ghost use Rattle.ps_book.specs.Services.{fields_of};
 ghost use Rattle.ps_book.specs.Wanting.{SplicesOr};
+ghost use Rattle.ps_book.specs.Numbers.{HasNumbers};
 ghost use Rattle.ps_book.specs.Additions.{HasRange, AddsVersion, ReadsAs};
 
 use crate::opening::{add_items, fault_reply, look_at, make_room};
@@ -37,6 +38,7 @@ impl Service {
         to: u32,
         block: &Text,
     ) -> Reply
+        requires { HasNumbers (fields_of self.old) }
         ensures leaves { (t : State) → Stands (fields_of self.old) t → Leaves (λ new. SplicesOr t name base from to block.now result new) (fields_of self.new) }
         ensures plain { is_plain result ≡ true }
     {
@@ -52,10 +54,6 @@ impl Service {
                 });
                 if from > to || to > len {
                     return Reply::Span(len);
-                }
-                if about.latest == u32::MAX {
-                    // no history is so long that a circuit has so many versions
-                    return Reply::Memory;
                 }
                 self.splice_block(name, Range { from, to, len }, block)
             }
