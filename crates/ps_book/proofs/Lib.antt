@@ -2,3 +2,4 @@ pub mod OpenedCircuits
 pub mod SplicedVersions
 pub mod ShownItems
 pub mod PublishedRecords
+pub mod VersionCounts

@@ -7,3 +7,4 @@ pub mod Books
 pub mod Wanting
 pub mod Additions
 pub mod Contents
+pub mod Numbers
