@@ -1,3 +1,4 @@
+pub mod Terms
 pub mod OpenedCircuits
 pub mod SplicedVersions
 pub mod ShownItems

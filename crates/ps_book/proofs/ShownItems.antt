@@ -29,31 +29,6 @@ live_held f p l = subst IsSome (sym l.lives.version_is) refl
 pub length-contents : (f : Fields) (p : Place) → length (contents_at f p) ≡ length (run_maybe (root_tree f.versions.nodes (root_of (held_at f.versions p))))
 length-contents f p = mapped_length (item_at f.items) (run_maybe (root_tree f.versions.nodes (root_of (held_at f.versions p))))
 
-abbrev pub with_more_terms : ℕ → Fields → Fields
-with_more_terms n f = record f { terms = f.terms + n }
-
--- ---- so many terms more
-pub terms_sound : (f : Fields) (n : ℕ) → IsSound f → f.terms + n ≤ most_terms → IsSound (with_more_terms n f)
-terms_sound f n s few = record {
-  tabled = s.tabled;
-  named = s.named;
-  wide = s.wide;
-  lives = s.lives;
-  grown = s.grown;
-  rooted = s.rooted;
-  recorded = s.recorded;
-  numbered = s.numbered;
-  seats = s.seats;
-  pinned = s.pinned;
-  counted = s.counted;
-  claimed = s.claimed;
-  ready = s.ready;
-  room = few;
-}
-
-pub terms_stand : (f : Fields) (t : State) (n : ℕ) → Stands f t → Stands (with_more_terms n f) (with_terms n t)
-terms_stand f t n s = record { circuits = s.circuits; published = s.published; unnamed = s.unnamed; pins = s.pins; claims = s.claims; terms = ap (λ m. m + n) s.terms; names = s.names }
-
 -- ---- what is answered
 module _ (f : Fields) (t : State) (sound : IsSound f) (so : Stands f t) (p : Place) where
   -- LAW: no live version is there

@@ -70,6 +70,19 @@ circuit_placed f sound name c e = by (place_of f.versions.circuits name) refl e
         let g = get_there f.tables i (omega (arith, sound.tabled, get_within f.versions.circuits i c e)) in
         (i, g.0, record { place = p; circuit = e; gates = g.1 })
 
+-- the same, where the index is known
+pub placed_at : (f : Fields) (ts : List (Arc Table Global)) (name : List ℕ) (c : held.Circuit) (i : ℕ) (table : Arc Table Global) → lookup.circuit_at f.versions.circuits name ≡ Some c
+    → Some i ≡ place_of f.versions.circuits name → f.tables ≡ tables_in ts → slice_get ts i ≡ Some table → IsAt f.tables f.versions.circuits name i (table_in table.value) c
+placed_at f ts name c i table e p t g = record {
+  place = sym p;
+  circuit = ap (lookup.circuit_in f.versions.circuits) p ∙ e;
+  gates = ap (λ xs. slice_get xs i) t ∙ gates_at ts i g;
+} where
+  gates_at : (xs : List (Arc Table Global)) (k : ℕ) → slice_get xs k ≡ Some table → slice_get (tables_in xs) k ≡ Some (table_in table.value)
+  gates_at [] k e = cc
+  gates_at (x ∷ xs) zero e = let same : x ≡ table = cc in ap (λ y. Some (table_in y.value)) same
+  gates_at (x ∷ xs) (suc k) e = gates_at xs k e
+
 -- LAW: the range is in the latest version
 pub has_range : (f : Fields) (name : List ℕ) (from to len : ℕ) (a : About) → Some a ≡ about (lookup.circuit_at f.versions.circuits name)
     → IsLive (lookup.version_at f.versions.circuits name a.latest) → len ≡ length (run_maybe (root_tree f.versions.nodes (root_of (lookup.version_at f.versions.circuits name a.latest))))
