@@ -1,18 +1,20 @@
 -- What is answered when a record is published, and the fields that are left.
-use Rattle.std.proofs.Common.{◌≡◌, ◌<◌, ◌≤◌, inl, inr, ℕ, ◌+◌, length, refl, sym, ap, ap₂, ◌∙◌, subst, arith}
+use Rattle.std.proofs.Common.{◌≡◌, ◌<◌, ◌≤◌, inl, inr, ℕ, zero, suc, ◌+◌, [], ◌∷◌, length, refl, sym, ap, ap₂, ◌∙◌, subst, arith}
 use Rattle.std.specs.Prelude.{List, Option, Some, None, slice_set, slice_index_or}
 use Rattle.std.specs.declared.sync.Arc.{Arc}
 use Rattle.std.specs.declared.alloc.Global.{Global}
 use Rattle.seg_tree.specs.Trees.{Tree}
 use Rattle.ps_reach.specs.declared.record.Record.{Record}
-use Rattle.ps_versions.specs.Held.{Held, Circuit}
+use Rattle.ps_versions.specs.Held.{Held, Version, Circuit}
+use Rattle.ps_versions.specs.Told.{Tells}
+use Rattle.ps_versions.specs.declared.data.State.{State as Told}
 use Rattle.ps_versions.specs.Records.{record_at}
 use Rattle.ps_journal.specs.declared.seats.Claim.{Claim}
 use Rattle.ps_journal.specs.declared.replies.Reply.{Reply}
 use Rattle.ps_journal.specs.declared.replies.Reply.TheVariants as reply
 use Rattle.ps_journal.specs.State.{State, unclaimed, most_terms}
 use Rattle.ps_journal.specs.Publishing.{Publishes, IsRightRecord, no_claim, size, refused, published}
-use Rattle.ps_views.specs.Fields.{Fields, IsSound, claim_at}
+use Rattle.ps_views.specs.Fields.{Fields, IsSound, held_at, claim_at}
 use Rattle.ps_views.specs.Stands.{Stands, Leaves}
 use Rattle.ps_views.specs.Tasks.{unclaims}
 use Rattle.ps_views.specs.Objections.{Objects, IsFree, IsRecordAt, refuses, ended_by, filed_by, free}
@@ -22,11 +24,40 @@ use Rattle.ps_views.proofs.Storing.{with_filed, filed_stands}
 use Rattle.ps_views.proofs.Publications.{objected, claim_stands, is_other, is_crowded, is_published}
 use Rattle.ps_book.specs.Wanting.{Starves, PublishesOr}
 
+-- what stands at a place is the same whatever is read past the end
+pub read_any : {A : Type 0} (xs : List A) (i : ℕ) (d e : A) → i < length xs → slice_index_or xs i d ≡ slice_index_or xs i e
+read_any [] i d e h = absurd (omega arith)
+read_any (x ∷ xs) zero d e h = refl
+read_any (x ∷ xs) (suc i) d e h = read_any xs i d e (omega arith)
+
 -- where nothing stands against a claim, it is free
 pub free_of : (f : Fields) (claim : Claim) (o : Option Reply) → Objects f claim o → o ≡ None → IsFree f claim
 free_of f claim o (ended_by held ended) e = cc
 free_of f claim o (filed_by held ended there) e = cc
 free_of f claim o (free {v} held ended lacks) e = record { version = v; held = held; ended = ended; lacks = lacks }
+
+-- ---- what stands against a claim
+module _ (f : Fields) (claim : Claim) (s : Told) (tells : Tells (held_at f.versions claim.place) s) where
+  pub objects_ended : (j : ℕ) → s.ended ≡ Some j → Objects f claim (Some (reply.Dropped j))
+  objects_ended j e = by (held_at f.versions claim.place) refl tells
+    where
+      by : (o : Option Version) → held_at f.versions claim.place ≡ o → Tells o s → Objects f claim (Some (reply.Dropped j))
+      by None q h = absurd h
+      by (Some v) q h = ended_by q (sym h.2 ∙ e)
+
+  pub objects_filed : (e : ℕ × Filed) → s.ended ≡ None → record_at f.versions.kept claim.node ≡ Some e → Objects f claim (Some (reply.Already e.0))
+  objects_filed e n r = by (held_at f.versions claim.place) refl tells
+    where
+      by : (o : Option Version) → held_at f.versions claim.place ≡ o → Tells o s → Objects f claim (Some (reply.Already e.0))
+      by None q h = absurd h
+      by (Some v) q h = filed_by q (sym h.2 ∙ n) r
+
+  pub objects_nothing : s.ended ≡ None → record_at f.versions.kept claim.node ≡ None → Objects f claim None
+  objects_nothing n r = by (held_at f.versions claim.place) refl tells
+    where
+      by : (o : Option Version) → held_at f.versions claim.place ≡ o → Tells o s → Objects f claim None
+      by None q h = absurd h
+      by (Some v) q h = free q (sym h.2 ∙ n) r
 
 -- tables are one where their parts are
 pub held_same : (g h : Held Filed) → g.circuits ≡ h.circuits → g.nodes ≡ h.nodes → g.kept ≡ h.kept → g ≡ h
