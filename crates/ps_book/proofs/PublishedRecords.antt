@@ -1,5 +1,5 @@
 -- What is answered when a record is published, and the fields that are left.
-use Rattle.std.proofs.Common.{◌≡◌, ◌<◌, ◌≤◌, inl, inr, ℕ, zero, suc, ◌+◌, [], ◌∷◌, length, refl, sym, ap, ap₂, ◌∙◌, subst, arith}
+use Rattle.std.proofs.Common.{◌≡◌, ◌<◌, ◌≤◌, inl, inr, ℕ, ◌+◌, length, refl, sym, ap, ap₂, ◌∙◌, subst, arith}
 use Rattle.std.specs.Prelude.{List, Option, Some, None, slice_set, slice_index_or}
 use Rattle.std.specs.declared.sync.Arc.{Arc}
 use Rattle.std.specs.declared.alloc.Global.{Global}
@@ -23,12 +23,6 @@ use Rattle.ps_views.proofs.SeatLaws.{unclaimed_stands, refused_stands}
 use Rattle.ps_views.proofs.Storing.{with_filed, filed_stands}
 use Rattle.ps_views.proofs.Publications.{objected, claim_stands, is_other, is_crowded, is_published}
 use Rattle.ps_book.specs.Wanting.{Starves, PublishesOr}
-
--- what stands at a place is the same whatever is read past the end
-pub read_any : {A : Type 0} (xs : List A) (i : ℕ) (d e : A) → i < length xs → slice_index_or xs i d ≡ slice_index_or xs i e
-read_any [] i d e h = absurd (omega arith)
-read_any (x ∷ xs) zero d e h = refl
-read_any (x ∷ xs) (suc i) d e h = read_any xs i d e (omega arith)
 
 -- where nothing stands against a claim, it is free
 pub free_of : (f : Fields) (claim : Claim) (o : Option Reply) → Objects f claim o → o ≡ None → IsFree f claim

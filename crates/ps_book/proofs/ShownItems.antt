@@ -37,11 +37,8 @@ module _ (f : Fields) (t : State) (sound : IsSound f) (so : Stands f t) (p : Pla
 
   module _ (l : IsLiveHere f p) where
     -- the state's version, and how its items are seen
-    gates : TableOf
-    gates = (finds_at f t so sound.tabled p l.lives.circuit l.lives.version l.lives.circuit_is l.lives.version_is).0
-
-    finds : FindsLive t p (circuit_of f.items f.versions.nodes gates l.lives.circuit) (version_of f.items f.versions.nodes l.lives.version)
-    finds = record { found = (finds_at f t so sound.tabled p l.lives.circuit l.lives.version l.lives.circuit_is l.lives.version_is).1; live = l.lives.live }
+    finds : (g : TableOf) × FindsLive t p (circuit_of f.items f.versions.nodes g l.lives.circuit) (version_of f.items f.versions.nodes l.lives.version)
+    finds = let s = finds_at f t so sound.tabled p l.lives.circuit l.lives.version l.lives.circuit_is l.lives.version_is in (s.0, record { found = s.1; live = l.lives.live })
 
     items_seen : (version_of f.items f.versions.nodes l.lives.version).items ≡ contents_at f p
     items_seen = run-mapped_maybe (item_at f.items) (root_tree f.versions.nodes l.lives.version.root)
@@ -51,10 +48,10 @@ module _ (f : Fields) (t : State) (sound : IsSound f) (so : Stands f t) (p : Pla
     pub reads_crowded : (total : ℕ) → total ≡ f.terms + length (contents_at f p) → most_terms < total → ReadsOr t p (reply.NoRoom total) t
     reads_crowded total e more =
         let same : t.terms + length (version_of f.items f.versions.nodes l.lives.version).items ≡ total = omega (arith, so.terms, ap length items_seen, e) in
-        inl (subst (λ n. Reads t p (reply.NoRoom n) t) same (no_room finds (omega (arith, same, more))))
+        inl (subst (λ n. Reads t p (reply.NoRoom n) t) same (no_room finds.1 (omega (arith, same, more))))
 
     -- LAW: the items are shown
     pub reads_shown : (r : Reply) → r ≡ reply.Shown (contents_at f p) → f.terms + length (contents_at f p) ≤ most_terms → ReadsOr t p r (with_terms (length (contents_at f p)) t)
     reads_shown r e few =
         inl (subst (λ x. Reads t p x (with_terms (length (contents_at f p)) t)) (sym e)
-        (subst (λ is. Reads t p (reply.Shown is) (with_terms (length is) t)) items_seen (shows finds (omega (arith, so.terms, ap length items_seen, few)))))
+        (subst (λ is. Reads t p (reply.Shown is) (with_terms (length is) t)) items_seen (shows finds.1 (omega (arith, so.terms, ap length items_seen, few)))))

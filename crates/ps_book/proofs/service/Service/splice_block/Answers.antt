@@ -36,10 +36,10 @@ returns-in-Ok-clause-leaves c =
     subst (λ b. ReadsBlock (table_in table) b (Ok c.in-Ok.items)) c.as_slice.ensures.value (subst (λ x. ReadsBlock (table_in x) c.as_slice.result.now (Ok c.in-Ok.items)) c.deref.ensures c.in-Ok.ensures.reads) in
     let reads : ReadsBlock (table_in table) block (Ok more) = subst (λ is. ReadsBlock (table_in table) block (Ok is)) (sym c.into_vec.ensures) here in
     λ t d so is.
-        let as : ReadsAs t c.args.name (length c.requires.circuit.versions) r.from r.to block more =
+        let known : ReadsAs t c.args.name (length c.requires.circuit.versions) r.from r.to block more =
         reads_as (fields_of s) c.args.name r.from r.to r.len c.requires t s.sound so block more c.in-Some.index (table_in table) at reads in
         c.splice_items.ensures.leaves t d block so is
-        (subst (λ x. ReadsAs t c.args.name (length x.versions) r.from r.to block more) (one c.requires.circuit d (sym c.requires.circuit_is ∙ is)) as)
+        (subst (λ x. ReadsAs t c.args.name (length x.versions) r.from r.to block more) (one c.requires.circuit d (sym c.requires.circuit_is ∙ is)) known)
 
 pub returns-in-Err-clause-leaves : goal.returns-in-Err-clause-leaves
 returns-in-Err-clause-leaves c =
