@@ -54,9 +54,9 @@ returns-then-not-is_record_of-clause-leaves c =
     λ t so. other_leaves (fields_of s) (fields_of u) t s.sound so c.args.number c.args.seat c.args.claim.now c.requires.claimed r c.requires.free c.unclaim.ensures off
 
 is_of : (c : After-is_record_of) → c.is_record_of.result ≡ true → IsRecordAt (fields_of c.args.self.now) c.args.claim.now c.args.given.now.value
-is_of c yes =
+is_of c same =
     moved (fields_of c.args.self.now) c.args.seat c.args.claim.now c.args.given.now.value
-    (subst (λ x. IsRecordAt x c.args.claim.now c.args.given.now.value) c.unclaim.ensures (subst (λ x. IsRecordAt (fields_of c.unclaim.new.self) c.args.claim.now x) c.deref.ensures (c.is_record_of.ensures.0 yes)))
+    (subst (λ x. IsRecordAt x c.args.claim.now c.args.given.now.value) c.unclaim.ensures (subst (λ x. IsRecordAt (fields_of c.unclaim.new.self) c.args.claim.now x) c.deref.ensures (c.is_record_of.ensures.0 same)))
 
 sum_is : (c : After-size) → c.unclaim.new.self.terms + c.size.result ≡ c.args.self.now.terms + size c.args.given.now.value
 sum_is c = ap₂ (λ a b. a + b) (ap (λ (x : Fields). x.terms) c.unclaim.ensures) (c.size.ensures ∙ ap size c.deref-2.ensures)
