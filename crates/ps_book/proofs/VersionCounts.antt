@@ -1,7 +1,7 @@
 -- No circuit has more versions than the history has entries.
 use Rattle.std.proofs.Common.{◌≡◌, ◌<◌, ◌≤◌, ℕ, zero, suc, ◌+◌, Bool, true, false, cond, List, [], ◌∷◌, ◌++◌, length, refl, sym, ap, ◌∙◌, subst, arith, length-append}
 use Rattle.std.proofs.Props.{props}
-use Rattle.std.specs.Prelude.{Option, Some, None, map, bytes_eq}
+use Rattle.std.specs.Prelude.{Option, Some, None, map, bytes_eq, slice_set}
 use Rattle.std.specs.List.{AllByRecursion}
 use Rattle.std.specs.declared.sync.Arc.{Arc}
 use Rattle.std.specs.declared.alloc.Global.{Global}
@@ -16,7 +16,7 @@ use Rattle.ps_journal.specs.declared.commands.Cmd.{Cmd}
 use Rattle.ps_journal.specs.declared.commands.Cmd.TheVariants as cmd
 use Rattle.ps_journal.specs.declared.commands.Outcome.{Outcome}
 use Rattle.ps_journal.specs.declared.replies.Reply.{Reply}
-use Rattle.ps_journal.specs.State.{Version, Circuit, State, circuit_at, with_circuit, with_version, with_next, unclaimed}
+use Rattle.ps_journal.specs.State.{Version, Circuit, State, circuit_at, with_circuit, with_version, with_next, released, unclaimed}
 use Rattle.ps_journal.specs.Keeping.{noted_versions, noted_circuit, noted, unpinned}
 use Rattle.ps_journal.specs.Opening as opening
 use Rattle.ps_journal.specs.Opening.{Opens}
@@ -25,7 +25,7 @@ use Rattle.ps_journal.specs.Splicing.{Splices, next_version}
 use Rattle.ps_journal.specs.Retiring as retiring
 use Rattle.ps_journal.specs.Retiring.{Retires, retired_version, retired_in}
 use Rattle.ps_journal.specs.Pinning as pinning
-use Rattle.ps_journal.specs.Pinning.{Pins}
+use Rattle.ps_journal.specs.Pinning.{Pins, new_pin}
 use Rattle.ps_journal.specs.Claiming as claiming
 use Rattle.ps_journal.specs.Claiming.{Nexts}
 use Rattle.ps_journal.specs.Publishing as publishing
@@ -54,11 +54,11 @@ more n cs a = all_weaker (λ c. length c.versions ≤ n) (λ c. length c.version
 -- ---- what changes circuits
 changed : (g : Circuit → Circuit) (n : ℕ) (name : List ℕ) → ((c : Circuit) → length c.versions ≤ n → length (g c).versions ≤ n + 1) → (cs : List Circuit) → AtMost n cs → AtMost (n + 1) (with_circuit g name cs)
 changed g n name h [] a = tt
-changed g n name h (c ∷ cs) a = by (bytes_eq name c.name)
+changed g n name h (c ∷ cs) a = by (bytes_eq name c.name) (changed g n name h cs a.1)
   where
-    by : (b : Bool) → AtMost (n + 1) (cond b (g c ∷ cs) (c ∷ with_circuit g name cs))
-    by true = (h c a.0, more n cs a.1)
-    by false = (omega (arith, a.0), changed g n name h cs a.1)
+    by : (b : Bool) → AtMost (n + 1) (with_circuit g name cs) → AtMost (n + 1) (cond b (g c ∷ cs) (c ∷ with_circuit g name cs))
+    by true rest = (h c a.0, more n cs a.1)
+    by false rest = (omega (arith, a.0), rest)
 
 length-noted : (i : ℕ) (pins : List (Option Pin)) (name : List ℕ) (k : ℕ) (vs : List Version) → length (noted_versions i pins name k vs) ≡ length vs
 length-noted i pins name k [] = refl
@@ -78,9 +78,6 @@ length-with g (suc (suc k)) (v ∷ vs) = omega (arith, length-with g (suc k) vs)
 module _ (t : State) (n i seat : ℕ) (a : AtMost n t.circuits) where
   same : AtMost (n + 1) t.circuits
   same = more n t.circuits a
-
-  noted_same : (u : State) → u.circuits ≡ t.circuits → AtMost (n + 1) (noted i u).circuits
-  noted_same u e = noted_most i (n + 1) u.pins u.circuits (subst (AtMost (n + 1)) (sym e) same)
 
   of_open : (name text : List ℕ) (r : Reply) (new : State) → Opens t i name text r new → AtMost (n + 1) new.circuits
   of_open name text r new (opening.name_taken e) = same
@@ -111,8 +108,8 @@ module _ (t : State) (n i seat : ℕ) (a : AtMost n t.circuits) where
   of_pin first second r new (pinning.first_refused e) = same
   of_pin first second r new (pinning.second_refused s e) = same
   of_pin first second r new (pinning.widths s u e) = same
-  of_pin first second r new (pinning.pins_one s) = noted_most i (n + 1) _ t.circuits same
-  of_pin first second r new (pinning.pins_two s u e) = noted_most i (n + 1) _ t.circuits same
+  of_pin first second r new (pinning.pins_one s) = noted_most i (n + 1) (slice_set t.pins seat (Some (new_pin first None))) t.circuits same
+  of_pin first second r new (pinning.pins_two {second = q} s u e) = noted_most i (n + 1) (slice_set t.pins seat (Some (new_pin first (Some q)))) t.circuits same
 
   of_next : (pinned : Bool) (r : Reply) (new : State) → Nexts t i seat pinned r new → AtMost (n + 1) new.circuits
   of_next pinned r new (claiming.no_pin e) = same
@@ -130,7 +127,7 @@ module _ (t : State) (n i seat : ℕ) (a : AtMost n t.circuits) where
   of_publish kept r new (publishing.publishes c o e h s) = same
 
   freed : AtMost (n + 1) (unpinned i seat t).circuits
-  freed = noted_most i (n + 1) _ t.circuits same
+  freed = noted_most i (n + 1) (released seat t).pins t.circuits same
 
   of_answer : (o : Outcome) (r : Reply) (new : State) → Answers t i seat o r new → AtMost (n + 1) new.circuits
   of_answer o r new (judging.no_pin e) = same
@@ -194,11 +191,11 @@ most_versions es u (next {es = fs} {e = e} {t = t} l s) =
 
 found : (n : ℕ) (name : List ℕ) (c : Circuit) (cs : List Circuit) → AtMost n cs → circuit_at cs name ≡ Some c → length c.versions ≤ n
 found n name c [] a e = cc
-found n name c (d ∷ cs) a e = by (bytes_eq name d.name) e
+found n name c (d ∷ cs) a e = by (bytes_eq name d.name) e (found n name c cs a.1)
   where
-    by : (b : Bool) → cond b (Some d) (circuit_at cs name) ≡ Some c → length c.versions ≤ n
-    by true q = let one : d ≡ c = cc in subst (λ x. length x.versions ≤ n) one a.0
-    by false q = found n name c cs a.1 q
+    by : (b : Bool) → cond b (Some d) (circuit_at cs name) ≡ Some c → (circuit_at cs name ≡ Some c → length c.versions ≤ n) → length c.versions ≤ n
+    by true q rest = let one : d ≡ c = cc in subst (λ x. length x.versions ≤ n) one a.0
+    by false q rest = rest q
 
 few_lawful : (f : Fields) (es : List Entry) → IsSound f → length es ≤ 262144 → IsLawful f es → (name : List ℕ) → latest_number (lookup.circuit_at f.versions.circuits name) < 4294967295
 few_lawful f es sound few l name = by (lookup.circuit_at f.versions.circuits name) refl
