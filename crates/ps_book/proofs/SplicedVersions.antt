@@ -182,8 +182,18 @@ module _ (f : Fields) (name : List ℕ) (from to len : ℕ) (h : HasRange f name
       count_replaced =
           let xs = a.version.items in
           let count : length xs ≡ len = ap (λ v. length v.items) seen.version ∙ count_seen in
-          omega (arith, count, h.ordered, h.inside, length-append (take from xs ++ more) (drop to xs), length-append (take from xs) more,
-            length-append (take from xs) (more ++ drop to xs), length-append more (drop to xs), length-take-le from xs (omega (arith, count, h.ordered, h.inside)), length-drop to xs)
+          omega (
+            arith,
+            count,
+            h.ordered,
+            h.inside,
+            length-append (take from xs ++ more) (drop to xs),
+            length-append (take from xs) more,
+            length-append (take from xs) (more ++ drop to xs),
+            length-append more (drop to xs),
+            length-take-le from xs (omega (arith, count, h.ordered, h.inside)),
+            length-drop to xs,
+          )
 
       -- LAW: it would be too long
       pub splice_long : (n : ℕ) → n ≡ len - (to - from) + length more → 65536 < n → SplicesOr t name base from to block (reply.TooLong n) t

@@ -18,12 +18,7 @@ use std::sync::Arc;
 
 impl Service {
     /// Files a record at the segment that a seat has a claim on, by entry `number`, or tells whether the claim stands.
-    pub(crate) fn publish(
-        &mut self,
-        number: u32,
-        seat: u32,
-        kept: &Option<Arc<Record>>,
-    ) -> Reply
+    pub(crate) fn publish(&mut self, number: u32, seat: u32, kept: &Option<Arc<Record>>) -> Reply
         requires { seat < 64 }
         ensures leaves { (t : State) → Stands (fields_of self.old) t → Leaves (λ new. PublishesOr t number seat kept.now result new) (fields_of self.new) }
         ensures plain { is_plain result ≡ true }
@@ -98,8 +93,7 @@ impl Service {
         requires node { claim.now.node < length self.now.versions.nodes }
         ensures { IsTrue result ↔ IsRecordAt (fields_of self.now) claim.now given.now }
     {
-        given.n == self.qubits_at(&claim.place)
-            && self.is_run(claim.node, given.items.as_slice())
+        given.n == self.qubits_at(&claim.place) && self.is_run(claim.node, given.items.as_slice())
     }
 
     /// The total that was refused is noted in the seat's pin, where it has one.

@@ -13,8 +13,7 @@ loop-number-preserved c =
     let a = c.len-first.result in
     let n = c.loop-number.number in
     let more : suc (n - a) ≡ n + 1 - a = omega (arith, c.loop-number.auto.number) in
-    let last : a + (n - a) ≡ n = omega (arith, c.loop-number.auto.number) in
-    (
+    let last : a + (n - a) ≡ n = omega (arith, c.loop-number.auto.number) in (
       c.push_reserved.ensures.items ∙ ap (λ ks. ks ++ n ∷ []) c.loop-number.invariant.0 ∙ ap (λ k. range_with_len a (n - a) ++ k ∷ []) (sym last) ∙ sym (range_more a (n - a)) ∙ ap (range_with_len a) more,
       omega (arith, c.push_reserved.ensures.len, c.loop-number.invariant.1, c.loop-number.auto.number),
       omega (arith, c.push_reserved.ensures.capacity, c.loop-number.invariant.2),

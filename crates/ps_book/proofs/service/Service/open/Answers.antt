@@ -27,12 +27,12 @@ returns-in-Ok-clause-leaves c =
     let few : length s.versions.circuits < 256 = omega (arith, c.if-count-ge256.false, c.count.ensures.value) in
     let reads : ReadsText c.args.text.now (Ok (circuit_in c.in-Ok.circuit)) = subst (λ b. ReadsText b (Ok (circuit_in c.in-Ok.circuit))) c.as_slice.ensures.value c.in-Ok.ensures.reads in
     λ t so.
-        let l = c.open_read.ensures.leaves t so in
-        record {
-          state = l.state;
-          does_so = is_read (fields_of s) t s.sound so c.args.number c.args.name c.args.text.now free few (circuit_in c.in-Ok.circuit) c.open_read.result l.state reads l.does_so;
-          stands = l.stands;
-        }
+    let l = c.open_read.ensures.leaves t so in
+    record {
+      state = l.state;
+      does_so = is_read (fields_of s) t s.sound so c.args.number c.args.name c.args.text.now free few (circuit_in c.in-Ok.circuit) c.open_read.result l.state reads l.does_so;
+      stands = l.stands;
+    }
 
 pub returns-in-Err-clause-leaves : goal.returns-in-Err-clause-leaves
 returns-in-Err-clause-leaves c =

@@ -55,8 +55,8 @@ returns-in-Some-objection-clause-leaves c =
     let s = c.args.self.now in
     let is = claim_is (goal.at.returns-in-Some-objection-clause-leaves c).In-Some in
     λ t so.
-        objected_leaves (fields_of s) (fields_of c.unclaim.new.self) t s.sound so c.args.number c.args.seat c.in-Some.claim is c.args.kept.now c.in-Some-objection.reply c.unclaim.ensures
-        c.in-Some-objection.ensures.objects
+    objected_leaves (fields_of s) (fields_of c.unclaim.new.self) t s.sound so c.args.number c.args.seat c.in-Some.claim is c.args.kept.now c.in-Some-objection.reply c.unclaim.ensures
+    c.in-Some-objection.ensures.objects
 
 pub returns-in-None-kept-clause-leaves : goal.returns-in-None-kept-clause-leaves
 returns-in-None-kept-clause-leaves c =
@@ -72,5 +72,5 @@ returns-in-None-kept-clause-leaves c =
 pub returns-in-Some-kept-clause-leaves : goal.returns-in-Some-kept-clause-leaves
 returns-in-Some-kept-clause-leaves c =
     λ t so.
-        subst (λ k. Leaves (λ new. PublishesOr t c.args.number c.args.seat k c.publish_record.result new) (fields_of c.publish_record.new.self)) (sym c.in-Some-kept.is)
-        (c.publish_record.ensures.leaves t so)
+    subst (λ k. Leaves (λ new. PublishesOr t c.args.number c.args.seat k c.publish_record.result new) (fields_of c.publish_record.new.self)) (sym c.in-Some-kept.is)
+    (c.publish_record.ensures.leaves t so)

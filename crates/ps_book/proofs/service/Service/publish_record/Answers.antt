@@ -68,8 +68,8 @@ returns-then-total-gt-MOST_TERMS-clause-leaves c =
     let is = is_of (goal.at.returns-then-total-gt-MOST_TERMS-clause-leaves c).After-is_record_of c.if-not-is_record_of.false in
     let sum = sum_is (goal.at.returns-then-total-gt-MOST_TERMS-clause-leaves c).After-size in
     λ t so.
-        crowded_leaves (fields_of s) (fields_of c.refuse.new.self) t s.sound so c.args.number c.args.seat c.args.claim.now c.requires.claimed c.args.given.now c.requires.free total
-        (c.refuse.ensures ∙ ap (refuses c.args.seat total) c.unclaim.ensures) is sum c.if-total-gt-MOST_TERMS.true
+    crowded_leaves (fields_of s) (fields_of c.refuse.new.self) t s.sound so c.args.number c.args.seat c.args.claim.now c.requires.claimed c.args.given.now c.requires.free total
+    (c.refuse.ensures ∙ ap (refuses c.args.seat total) c.unclaim.ensures) is sum c.if-total-gt-MOST_TERMS.true
 
 pub returns-in-Err-clause-leaves : goal.returns-in-Err-clause-leaves
 returns-in-Err-clause-leaves c =
@@ -104,5 +104,5 @@ returns-in-Ok-clause-leaves c =
     let kept : record_at (slice_set s.versions.kept node (Some (c.args.number, filed))) node ≡ Some (c.args.number, filed) =
     ap (λ ks. record_at ks node) (ap (λ h. slice_set h.kept node (Some (c.args.number, filed))) (sym same) ∙ sym c.store.ensures.kept) ∙ c.store.ensures.stored in
     λ t so.
-        published_leaves (fields_of s) _ t s.sound so c.args.number c.args.seat c.args.claim.now c.requires.claimed c.args.given.now c.requires.free total filed made is sum c.if-total-gt-MOST_TERMS.false
-        c.args.given.now.value.right (storable (goal.at.returns-in-Ok-clause-leaves c).After-unclaim).there kept c.in-Ok.ensures
+    published_leaves (fields_of s) _ t s.sound so c.args.number c.args.seat c.args.claim.now c.requires.claimed c.args.given.now c.requires.free total filed made is sum c.if-total-gt-MOST_TERMS.false
+    c.args.given.now.value.right (storable (goal.at.returns-in-Ok-clause-leaves c).After-unclaim).there kept c.in-Ok.ensures

@@ -10,5 +10,5 @@ returns-in-Err c =
     let s = c.args.self.now in
     let p = c.args.place.now in
     λ t so.
-        subst (λ r. Leaves (λ new. ReadsOr t p r new) (fields_of s)) (sym c.plain.ensures)
-        (record { state = t; does_so = reads_refused (fields_of s) t s.sound so p c.in-Err.reply (c.in-Err.ensures.told t so); stands = so })
+    subst (λ r. Leaves (λ new. ReadsOr t p r new) (fields_of s)) (sym c.plain.ensures)
+    (record { state = t; does_so = reads_refused (fields_of s) t s.sound so p c.in-Err.reply (c.in-Err.ensures.told t so); stands = so })

@@ -19,8 +19,8 @@ returns-then-total-gt-MOST_TERMS c =
     let total = s.terms + c.from.result in
     let same = counted (goal.at.returns-then-total-gt-MOST_TERMS c).After-from in
     λ t so.
-        subst (λ r. Leaves (λ new. ReadsOr t p r new) (fields_of s)) (sym c.plain.ensures)
-        (record { state = t; does_so = reads_crowded (fields_of s) t s.sound so p c.requires total (omega (arith, same)) c.if-total-gt-MOST_TERMS.true; stands = so })
+    subst (λ r. Leaves (λ new. ReadsOr t p r new) (fields_of s)) (sym c.plain.ensures)
+    (record { state = t; does_so = reads_crowded (fields_of s) t s.sound so p c.requires total (omega (arith, same)) c.if-total-gt-MOST_TERMS.true; stands = so })
 
 pub returns-in-Ok : goal.returns-in-Ok
 returns-in-Ok c =
@@ -31,5 +31,5 @@ returns-in-Ok c =
     let same = counted (goal.at.returns-in-Ok c).After-from in
     let few : s.terms + n ≤ 8388608 = omega (arith, same, c.if-total-gt-MOST_TERMS.false) in
     λ t so.
-        subst (λ m. Leaves (λ new. ReadsOr t p c.in-Ok.told.reply new) (record f { terms = f.terms + m })) same
-        (record { state = with_terms n t; does_so = reads_shown f t s.sound so p c.requires c.in-Ok.told.reply c.in-Ok.ensures few; stands = more_stands f n t so })
+    subst (λ m. Leaves (λ new. ReadsOr t p c.in-Ok.told.reply new) (record f { terms = f.terms + m })) same
+    (record { state = with_terms n t; does_so = reads_shown f t s.sound so p c.requires c.in-Ok.told.reply c.in-Ok.ensures few; stands = more_stands f n t so })

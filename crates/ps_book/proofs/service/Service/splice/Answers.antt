@@ -55,5 +55,5 @@ returns-else-to-len-clause-leaves c =
     let d = circuit_told (circuit_at s.versions.circuits c.args.name) c.in-Some.about c.in-Some.ensures.about in
     let base : c.args.base ≡ length d.0.versions = c.if-base-about.false ∙ d.2 in
     λ t so.
-        subst (λ n. Leaves (λ new. SplicesOr t c.args.name n c.args.from c.args.to c.args.block.now c.splice_block.result new) (fields_of c.splice_block.new.self)) (sym base)
-        (c.splice_block.ensures.leaves t d.0 so d.1)
+    subst (λ n. Leaves (λ new. SplicesOr t c.args.name n c.args.from c.args.to c.args.block.now c.splice_block.result new) (fields_of c.splice_block.new.self)) (sym base)
+    (c.splice_block.ensures.leaves t d.0 so d.1)

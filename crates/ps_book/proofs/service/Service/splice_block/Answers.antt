@@ -36,10 +36,10 @@ returns-in-Ok-clause-leaves c =
     subst (λ b. ReadsBlock (table_in table) b (Ok c.in-Ok.items)) c.as_slice.ensures.value (subst (λ x. ReadsBlock (table_in x) c.as_slice.result.now (Ok c.in-Ok.items)) c.deref.ensures c.in-Ok.ensures.reads) in
     let reads : ReadsBlock (table_in table) block (Ok more) = subst (λ is. ReadsBlock (table_in table) block (Ok is)) (sym c.into_vec.ensures) here in
     λ t d so is.
-        let known : ReadsAs t c.args.name (length c.requires.circuit.versions) r.from r.to block more =
-        reads_as (fields_of s) c.args.name r.from r.to r.len c.requires t s.sound so block more c.in-Some.index (table_in table) at reads in
-        c.splice_items.ensures.leaves t d block so is
-        (subst (λ x. ReadsAs t c.args.name (length x.versions) r.from r.to block more) (one c.requires.circuit d (sym c.requires.circuit_is ∙ is)) known)
+    let known : ReadsAs t c.args.name (length c.requires.circuit.versions) r.from r.to block more =
+    reads_as (fields_of s) c.args.name r.from r.to r.len c.requires t s.sound so block more c.in-Some.index (table_in table) at reads in
+    c.splice_items.ensures.leaves t d block so is
+    (subst (λ x. ReadsAs t c.args.name (length x.versions) r.from r.to block more) (one c.requires.circuit d (sym c.requires.circuit_is ∙ is)) known)
 
 pub returns-in-Err-clause-leaves : goal.returns-in-Err-clause-leaves
 returns-in-Err-clause-leaves c =
@@ -54,10 +54,10 @@ returns-in-Err-clause-leaves c =
     subst (λ b. ItemsTold (Err fault) (ReadsBlock (table_in table) b)) c.as_slice.ensures.value (subst (λ x. ItemsTold (Err fault) (ReadsBlock (table_in x) c.as_slice.result.now)) c.deref.ensures c.in-Err.ensures.reads) in
     let tells : TellsFault block fault told = subst (λ b. TellsFault b fault told) c.as_slice-in-Err.ensures.value c.fault_reply.ensures.told in
     λ t d so is.
-        let does : SplicesOr t c.args.name (length c.requires.circuit.versions) r.from r.to block told t =
-        splice_faulty (fields_of s) c.args.name r.from r.to r.len c.requires t s.sound so block c.in-Some.index (table_in table) fault told at reads tells in
-        record {
-          state = t;
-          does_so = subst (λ x. SplicesOr t c.args.name (length x.versions) r.from r.to block told t) (one c.requires.circuit d (sym c.requires.circuit_is ∙ is)) does;
-          stands = so;
-        }
+    let does : SplicesOr t c.args.name (length c.requires.circuit.versions) r.from r.to block told t =
+    splice_faulty (fields_of s) c.args.name r.from r.to r.len c.requires t s.sound so block c.in-Some.index (table_in table) fault told at reads tells in
+    record {
+      state = t;
+      does_so = subst (λ x. SplicesOr t c.args.name (length x.versions) r.from r.to block told t) (one c.requires.circuit d (sym c.requires.circuit_is ∙ is)) does;
+      stands = so;
+    }

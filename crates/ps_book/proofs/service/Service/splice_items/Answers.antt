@@ -22,11 +22,11 @@ returns-then-count-gt65536-clause-leaves c =
     let more = map prims_of c.args.items.items in
     let same = many (goal.at.returns-then-count-gt65536-clause-leaves c).After-len in
     λ t d block so is a.
-        record {
-          state = t;
-          does_so = splice_long (fields_of s) c.args.name r.from r.to r.len c.requires.range t s.sound so (length d.versions) block more a (r.len - (r.to - r.from) + c.len.result) (ap (λ n. r.len - (r.to - r.from) + n) same) c.if-count-gt65536.true;
-          stands = so;
-        }
+    record {
+      state = t;
+      does_so = splice_long (fields_of s) c.args.name r.from r.to r.len c.requires.range t s.sound so (length d.versions) block more a (r.len - (r.to - r.from) + c.len.result) (ap (λ n. r.len - (r.to - r.from) + n) same) c.if-count-gt65536.true;
+      stands = so;
+    }
 
 pub returns-then-is_empty-clause-leaves : goal.returns-then-is_empty-clause-leaves
 returns-then-is_empty-clause-leaves c =
@@ -38,7 +38,7 @@ returns-then-is_empty-clause-leaves c =
     let none : more ≡ [] = empty more (omega (arith, zero_len, same, c.len.ensures)) in
     let few : r.len - (r.to - r.from) + length more ≤ 65536 = omega (arith, same, c.if-count-gt65536.false) in
     λ t d block so is a.
-        record { state = t; does_so = splice_nothing (fields_of s) c.args.name r.from r.to r.len c.requires.range t s.sound so (length d.versions) block more a few c.if-range.true none; stands = so }
+    record { state = t; does_so = splice_nothing (fields_of s) c.args.name r.from r.to r.len c.requires.range t s.sound so (length d.versions) block more a few c.if-range.true none; stands = so }
 
 pub returns-in-Ok-clause-leaves : goal.returns-in-Ok-clause-leaves
 returns-in-Ok-clause-leaves c =
@@ -52,5 +52,5 @@ returns-in-Ok-clause-leaves c =
       | else-range-via-else-range w ↦ inl (omega (arith, w.if-range.false, c.requires.range.ordered))
     ] in
     λ t d block so is a.
-        spliced_leaves (fields_of s) c.args.name r.from r.to r.len c.requires.range t s.sound so (length d.versions) block more a (fields_of c.add_version.new.self) c.in-Ok.version c.missing_of.result
-        c.in-Ok.ensures.added few some c.missing_of.ensures
+    spliced_leaves (fields_of s) c.args.name r.from r.to r.len c.requires.range t s.sound so (length d.versions) block more a (fields_of c.add_version.new.self) c.in-Ok.version c.missing_of.result
+    c.in-Ok.ensures.added few some c.missing_of.ensures
