@@ -21,7 +21,8 @@ use Rattle.ps_journal.specs.Opening.{first_version, opened}
 use Rattle.ps_journal.specs.Splicing.{Replaces}
 use Rattle.ps_views.specs.Older.{IsForest}
 use Rattle.ps_views.specs.Fields.{Fields}
-use Rattle.ps_book.specs.Wanting.{Starves}
+use Rattle.ps_views.specs.Stands.{Stands, Leaves}
+use Rattle.ps_book.specs.Wanting.{Starves, SplicesOr}
 
 -- ---- faults
 -- the reply tells the fault with its line and its column
@@ -78,3 +79,15 @@ pub record ReadsAs (t : State) (name : List ℕ) (base from to : ℕ) (block : L
   pub version : Version
   pub replaces : Replaces t name base from to circuit version
   pub reads : ReadsBlock circuit.table block (Ok items)
+
+-- where the latest version is the base, the fields that are left stand for the state that splicing the block leaves
+abbrev pub SplicesBlock : Fields → List ℕ → ℕ → ℕ → List ℕ → Reply → Fields → Type 0
+SplicesBlock f name from to block r g =
+    (t : State) (c : held.Circuit) → Stands f t → lookup.circuit_at f.versions.circuits name ≡ Some c
+    → Leaves (λ new. SplicesOr t name (length c.versions) from to block r new) g
+
+-- the same of any block that was read as these items
+abbrev pub SplicesItems : Fields → List ℕ → ℕ → ℕ → List Item → Reply → Fields → Type 0
+SplicesItems f name from to items r g =
+    (t : State) (c : held.Circuit) (block : List ℕ) → Stands f t → lookup.circuit_at f.versions.circuits name ≡ Some c
+    → ReadsAs t name (length c.versions) from to block items → Leaves (λ new. SplicesOr t name (length c.versions) from to block r new) g

@@ -1,15 +1,13 @@
 //! How circuits get their next versions.
-ghost use Rattle.std.specs.Prelude.{ℕ, ◌≡◌, ◌≤◌, ◌+◌, ◌-◌, true, List, map, length, vec_len, Some, IfOk, OnErr};
+ghost use Rattle.std.specs.Prelude.{◌≡◌, ◌≤◌, ◌+◌, ◌-◌, true, map, vec_len, IfOk, OnErr};
 ghost use Rattle.ps_reach.specs.Runs.{prims_of};
-ghost use Rattle.ps_versions.specs.Held.{Circuit};
-ghost use Rattle.ps_versions.specs.Lookup.{circuit_at};
 ghost use Rattle.ps_journal.specs.Plain.{is_plain};
 ghost use Rattle.ps_journal.specs.State.{State};
 ghost use Rattle.ps_views.specs.Stands.{Stands, Leaves};
 ghost use Rattle.ps_book.specs.Services.{fields_of};
 ghost use Rattle.ps_book.specs.Wanting.{SplicesOr};
 ghost use Rattle.ps_book.specs.Numbers.{HasNumbers};
-ghost use Rattle.ps_book.specs.Additions.{HasRange, AddsVersion, ReadsAs};
+ghost use Rattle.ps_book.specs.Additions.{HasRange, AddsVersion, SplicesBlock, SplicesItems};
 
 use crate::opening::{add_items, fault_reply, look_at, make_room};
 use crate::service::Service;
@@ -63,7 +61,7 @@ impl Service {
     /// The same, where the range is in the latest version.
     fn splice_block(&mut self, name: Name, range: Range, block: &Text) -> Reply
         requires { HasRange (fields_of self.old) name range.from range.to range.len }
-        ensures leaves { (t : State) (c : Circuit) → Stands (fields_of self.old) t → circuit_at self.old.versions.circuits name ≡ Some c → Leaves (λ new. SplicesOr t name (length c.versions) range.from range.to block.now result new) (fields_of self.new) }
+        ensures leaves { SplicesBlock (fields_of self.old) name range.from range.to block.now result (fields_of self.new) }
         ensures plain { is_plain result ≡ true }
     {
         match self.versions.place_of(&name) {
@@ -79,7 +77,7 @@ impl Service {
     fn splice_items(&mut self, name: Name, range: Range, items: Vec<Arc<Item>>) -> Reply
         requires range { HasRange (fields_of self.old) name range.from range.to range.len }
         requires few { vec_len items ≤ 65536 }
-        ensures leaves { (t : State) (c : Circuit) (block : List ℕ) → Stands (fields_of self.old) t → circuit_at self.old.versions.circuits name ≡ Some c → ReadsAs t name (length c.versions) range.from range.to block (map prims_of items.items) → Leaves (λ new. SplicesOr t name (length c.versions) range.from range.to block result new) (fields_of self.new) }
+        ensures leaves { SplicesItems (fields_of self.old) name range.from range.to (map prims_of items.items) result (fields_of self.new) }
         ensures plain { is_plain result ≡ true }
     {
         let count = range.len - (range.to - range.from) + items.len() as u32;
