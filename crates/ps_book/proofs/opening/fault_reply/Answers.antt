@@ -1,4 +1,4 @@
-use Rattle.std.proofs.Common.{◌≡◌, refl, sym, subst}
+use Rattle.std.proofs.Common.{refl, sym, subst}
 use Rattle.qasm_lex.specs.Places.{IsPlace}
 use Rattle.ps_journal.specs.declared.replies.Reply.TheVariants.{Bad}
 use Rattle.ps_book.specs.Additions.{TellsFault}

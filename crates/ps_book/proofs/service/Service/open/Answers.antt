@@ -1,5 +1,5 @@
-use Rattle.std.proofs.Common.{◌≡◌, ◌<◌, ◌≤◌, length, refl, sym, subst, arith}
-use Rattle.std.specs.Prelude.{Ok, Err, None}
+use Rattle.std.proofs.Common.{◌<◌, length, subst, arith}
+use Rattle.std.specs.Prelude.{Ok, Err}
 use Rattle.qasm_expand.specs.Circuits.{ReadsText}
 use Rattle.qasm_expand.specs.Reading.{circuit_in, CircuitTold}
 use Rattle.ps_versions.specs.Lookup.{circuit_at}

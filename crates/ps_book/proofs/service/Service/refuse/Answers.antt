@@ -1,6 +1,6 @@
 use Rattle.std.proofs.Common.{◌≡◌, ◌<◌, length, sym, ap, ◌∙◌, subst, arith, get_or}
 use Rattle.std.proofs.lemmas.List.{get_or_default}
-use Rattle.std.specs.Prelude.{None, Option, slice_set}
+use Rattle.std.specs.Prelude.{None, slice_set}
 use Rattle.ps_journal.specs.Publishing.{refused_pin}
 use Rattle.ps_views.specs.Fields.{fields, IsSound}
 use Rattle.ps_views.proofs.SeatLaws.{refused_sound}

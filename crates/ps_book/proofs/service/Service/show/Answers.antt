@@ -1,4 +1,4 @@
-use Rattle.std.proofs.Common.{◌≡◌, ◌≤◌, ◌+◌, length, sym, ◌∙◌, subst, arith}
+use Rattle.std.proofs.Common.{◌≡◌, ◌≤◌, ◌+◌, length, sym, subst, arith}
 use Rattle.ps_journal.specs.State.{with_terms}
 use Rattle.ps_views.specs.Stands.{Leaves}
 use Rattle.ps_book.specs.Services.{fields_of}

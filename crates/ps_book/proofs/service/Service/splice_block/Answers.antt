@@ -1,4 +1,4 @@
-use Rattle.std.proofs.Common.{◌≡◌, ◌<◌, length, refl, sym, ap, ap₂, ◌∙◌, subst, arith}
+use Rattle.std.proofs.Common.{◌≡◌, ◌<◌, length, refl, sym, ◌∙◌, subst, arith}
 use Rattle.std.specs.Prelude.{Ok, Err, Some, map}
 use Rattle.std.proofs.lemmas.Option.{slice_get_read}
 use Rattle.qasm_expand.specs.Circuits.{ReadsBlock}
