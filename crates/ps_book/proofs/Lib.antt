@@ -3,4 +3,9 @@ pub mod ItemRuns
 pub mod Segments
 pub mod Journals
 pub mod MissingLaws
+pub mod Terms
+pub mod OpenedCircuits
+pub mod SplicedVersions
+pub mod ShownItems
+pub mod PublishedRecords
 pub mod VersionCounts

@@ -5,4 +5,6 @@ pub mod Counts
 pub mod Lawful
 pub mod Books
 pub mod Wanting
+pub mod Additions
+pub mod Contents
 pub mod Numbers

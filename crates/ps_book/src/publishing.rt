@@ -1,8 +1,12 @@
 //! How records are published.
-ghost use Rattle.std.specs.Prelude.{◌<◌, ◌≡◌, true};
+ghost use Rattle.std.specs.Prelude.{◌<◌, ◌≡◌, ◌↔◌, true, length, Some, IsTrue, IsSome, IfSome};
+ghost use Rattle.ps_versions.specs.Lookup.{circuit_at};
+ghost use Rattle.ps_journal.specs.Publishing.{refused_pin};
 ghost use Rattle.ps_journal.specs.Plain.{is_plain};
 ghost use Rattle.ps_journal.specs.State.{State};
+ghost use Rattle.ps_views.specs.Fields.{held_at, claim_at};
 ghost use Rattle.ps_views.specs.Stands.{Stands, Leaves};
+ghost use Rattle.ps_views.specs.Objections.{Objects, IsFree, IsRecordAt, refuses};
 ghost use Rattle.ps_book.specs.Services.{fields_of};
 ghost use Rattle.ps_book.specs.Wanting.{PublishesOr};
 
@@ -14,12 +18,7 @@ use std::sync::Arc;
 
 impl Service {
     /// Files a record at the segment that a seat has a claim on, by entry `number`, or tells whether the claim stands.
-    pub(crate) fn publish(
-        &mut self,
-        number: u32,
-        seat: u32,
-        kept: &Option<Arc<Record>>,
-    ) -> Reply
+    pub(crate) fn publish(&mut self, number: u32, seat: u32, kept: &Option<Arc<Record>>) -> Reply
         requires { seat < 64 }
         ensures leaves { (t : State) → Stands (fields_of self.old) t → Leaves (λ new. PublishesOr t number seat kept.now result new) (fields_of self.new) }
         ensures plain { is_plain result ≡ true }
@@ -33,14 +32,19 @@ impl Service {
                 }
                 None => match kept {
                     None => Reply::Stands,
-                    Some(record) => self.publish_record(number, seat, &claim, record),
+                    Some(given) => self.publish_record(number, seat, &claim, given),
                 },
             },
         }
     }
 
     /// Why nothing can be published for a claim any more.
-    fn objection(&self, claim: &Claim) -> Option<Reply> {
+    fn objection(&self, claim: &Claim) -> Option<Reply>
+        requires there { IsSome (held_at self.now.versions claim.now.place) }
+        requires node { claim.now.node < length self.now.versions.nodes }
+        ensures objects { Objects (fields_of self.now) claim.now result }
+        ensures plain { IfSome result (λ r. is_plain r ≡ true) }
+    {
         match self.versions.state(&claim.place).ended {
             Some(entry) => Some(Reply::Dropped(entry)),
             None => match self.versions.kept_at(claim.node) {
@@ -56,18 +60,24 @@ impl Service {
         number: u32,
         seat: u32,
         claim: &Claim,
-        record: &Arc<Record>,
-    ) -> Reply {
+        given: &Arc<Record>,
+    ) -> Reply
+        requires near { seat < 64 }
+        requires claimed { claim_at (fields_of self.old) seat ≡ Some claim.now }
+        requires free { IsFree (fields_of self.old) claim.now }
+        ensures leaves { (t : State) → Stands (fields_of self.old) t → Leaves (λ new. PublishesOr t number seat (Some given.now) result new) (fields_of self.new) }
+        ensures plain { is_plain result ≡ true }
+    {
         self.unclaim(seat);
-        if !self.is_record_of(claim, record) {
+        if !self.is_record_of(claim, given) {
             return Reply::OtherRun;
         }
-        let total = self.terms + record.size();
+        let total = self.terms + given.size();
         if total > MOST_TERMS {
             self.refuse(seat, total);
             return Reply::NoRoom(total);
         }
-        match Arc::try_clone(record) {
+        match Arc::try_clone(given) {
             Err(_) => Reply::Memory,
             Ok(shared) => {
                 self.terms = total;
@@ -78,19 +88,27 @@ impl Service {
     }
 
     /// Whether a record is of the items of a claimed segment, on the qubits of its circuit.
-    fn is_record_of(&self, claim: &Claim, record: &Record) -> bool {
-        record.n == self.qubits_at(&claim.place)
-            && self.is_run(claim.node, record.items.as_slice())
+    fn is_record_of(&self, claim: &Claim, given: &Record) -> bool
+        requires there { IsSome (circuit_at self.now.versions.circuits claim.now.place.name) }
+        requires node { claim.now.node < length self.now.versions.nodes }
+        ensures { IsTrue result ↔ IsRecordAt (fields_of self.now) claim.now given.now }
+    {
+        given.n == self.qubits_at(&claim.place) && self.is_run(claim.node, given.items.as_slice())
     }
 
     /// The total that was refused is noted in the seat's pin, where it has one.
-    fn refuse(&mut self, seat: u32, total: u64) {
+    fn refuse(&mut self, seat: u32, total: u64)
+        requires { seat < 64 }
+        ensures { fields_of self.new ≡ refuses seat total (fields_of self.old) }
+    {
         self.pins[seat as usize] = refused(self.pins[seat as usize], total);
     }
 }
 
 /// A pin with the total that was refused under it.
-fn refused(pin: Option<Pin>, total: u64) -> Option<Pin> {
+fn refused(pin: Option<Pin>, total: u64) -> Option<Pin>
+    ensures { result ≡ refused_pin total pin }
+{
     match pin {
         None => None,
         Some(pin) => Some(Pin {

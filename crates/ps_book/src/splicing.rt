@@ -1,12 +1,15 @@
 //! How circuits get their next versions.
-ghost use Rattle.std.specs.Prelude.{◌≡◌, true};
+ghost use Rattle.std.specs.Prelude.{◌≡◌, ◌≤◌, ◌+◌, ◌-◌, true, map, vec_len, IfOk, OnErr};
+ghost use Rattle.ps_reach.specs.Runs.{prims_of};
 ghost use Rattle.ps_journal.specs.Plain.{is_plain};
 ghost use Rattle.ps_journal.specs.State.{State};
 ghost use Rattle.ps_views.specs.Stands.{Stands, Leaves};
 ghost use Rattle.ps_book.specs.Services.{fields_of};
 ghost use Rattle.ps_book.specs.Wanting.{SplicesOr};
+ghost use Rattle.ps_book.specs.Numbers.{HasNumbers};
+ghost use Rattle.ps_book.specs.Additions.{HasRange, AddsVersion, SplicesBlock, SplicesItems};
 
-use crate::opening::{add_items, fault_reply, make_room};
+use crate::opening::{add_items, fault_reply, look_at, make_room};
 use crate::service::Service;
 use ps_journal::Reply;
 use ps_prim::Item;
@@ -33,6 +36,7 @@ impl Service {
         to: u32,
         block: &Text,
     ) -> Reply
+        requires { HasNumbers (fields_of self.old) }
         ensures leaves { (t : State) → Stands (fields_of self.old) t → Leaves (λ new. SplicesOr t name base from to block.now result new) (fields_of self.new) }
         ensures plain { is_plain result ≡ true }
     {
@@ -55,7 +59,11 @@ impl Service {
     }
 
     /// The same, where the range is in the latest version.
-    fn splice_block(&mut self, name: Name, range: Range, block: &Text) -> Reply {
+    fn splice_block(&mut self, name: Name, range: Range, block: &Text) -> Reply
+        requires { HasRange (fields_of self.old) name range.from range.to range.len }
+        ensures leaves { SplicesBlock (fields_of self.old) name range.from range.to block.now result (fields_of self.new) }
+        ensures plain { is_plain result ≡ true }
+    {
         match self.versions.place_of(&name) {
             None => unreachable!(),
             Some(index) => match items(self.alloc(), &self.tables[index], block.as_slice()) {
@@ -66,7 +74,12 @@ impl Service {
     }
 
     /// The same with the items of the block.
-    fn splice_items(&mut self, name: Name, range: Range, items: Vec<Arc<Item>>) -> Reply {
+    fn splice_items(&mut self, name: Name, range: Range, items: Vec<Arc<Item>>) -> Reply
+        requires range { HasRange (fields_of self.old) name range.from range.to range.len }
+        requires few { vec_len items ≤ 65536 }
+        ensures leaves { SplicesItems (fields_of self.old) name range.from range.to (map prims_of items.items) result (fields_of self.new) }
+        ensures plain { is_plain result ≡ true }
+    {
         let count = range.len - (range.to - range.from) + items.len() as u32;
         if count > 65_536 {
             return Reply::TooLong(count);
@@ -89,9 +102,16 @@ impl Service {
         name: Name,
         range: Range,
         items: Vec<Arc<Item>>,
-    ) -> Result<u32, AllocError> {
+    ) -> Result<u32, AllocError>
+        requires range { HasRange (fields_of self.old) name range.from range.to range.len }
+        requires few { vec_len items ≤ 65536 }
+        requires fits { range.len - (range.to - range.from) + vec_len items ≤ 65536 }
+        ensures added { IfOk result (λ number. AddsVersion (fields_of self.old) name range.from range.to (map prims_of items.items) number (fields_of self.new)) }
+        ensures err { OnErr result (fields_of self.new ≡ fields_of self.old) }
+    {
         let numbers = make_room(self.alloc(), &mut self.items, items.len())?;
         let version = self.versions.splice(name, range.from, range.to, &numbers)?;
+        look_at(&self.versions, &Place { name, version });
         add_items(&mut self.items, items);
         Ok(version)
     }
