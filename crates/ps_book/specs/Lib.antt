@@ -5,3 +5,5 @@ pub mod Counts
 pub mod Lawful
 pub mod Books
 pub mod Wanting
+pub mod Releases
+pub mod Conclusions
