@@ -1,0 +1,4 @@
+pub mod Releasing
+pub mod Giving
+pub mod Belonging
+pub mod Summed
