@@ -2,3 +2,5 @@ pub mod Releasing
 pub mod Giving
 pub mod Belonging
 pub mod Summed
+pub mod Concluding
+pub mod Replying
