@@ -4,3 +4,4 @@ pub mod Belonging
 pub mod Summed
 pub mod Concluding
 pub mod Replying
+pub mod Identities

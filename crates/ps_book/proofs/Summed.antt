@@ -1,6 +1,6 @@
 -- What a settled version comes to, as the tables tell it.
 use Rattle.std.proofs.Common.{◌≡◌, ◌<◌, ◌≤◌, ℕ, zero, suc, List, length, refl, sym, ap, ap₂, ◌∙◌, subst, arith, Bool, true, false, ◌||◌, inl, inr}
-use Rattle.std.specs.Prelude.{Option, Some, None, is_some, IsSome, slice_get}
+use Rattle.std.specs.Prelude.{Option, Some, None, is_some, IsSome, MatchOption, slice_get}
 use Rattle.std.specs.List.{list_any}
 use Rattle.seg_tree.specs.Trees.{Tree, name_of}
 use Rattle.seg_tree.specs.Table.{tree, root_tree}
@@ -158,3 +158,8 @@ module _ (f : Fields) (sound : IsSound f) (p : Place) (k : KeptAt f p) where
 
 pub sum_starved : (f : Fields) (pin : Pin) (o : Outcome) (r : Reply) → r ≡ Memory → ConcludesSum f pin o r
 sum_starved f pin o r e t i seat so pinned = inr (record { reply = e; state = refl })
+
+-- what a look-up found is there
+pub found_some : {X : Type 0} (o : Option X) (r : Option (ℕ × Filed)) (P : X → Type 0) → MatchOption o (r ≡ None) P → is_some r ≡ true → IsSome o
+found_some None r P h e = sym (ap is_some h) ∙ e
+found_some (Some x) r P h e = refl
