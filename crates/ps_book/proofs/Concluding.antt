@@ -152,3 +152,9 @@ module _ (f : Fields) (i seat : ℕ) (t : State) (so : Stands f t) where
 
     pub sums_leaves : ConcludesSum f pin o r → Stands new (unpinned i seat t) → Leaves (λ left. SumsOr t i seat o r left) new
     sums_leaves h s = record { state = unpinned i seat t; does_so = h t i seat so (pin_told ∙ at); stands = s }
+
+-- ---- the terms of a verdict that was told
+-- of a reply that is no verdict, none are
+pub counted_other : (r : Reply) → ((j : AJudged) (proof : Bool) → r ≡ Answered j proof → ⊥) → (t : State) → counted r t ≡ t
+counted_other (Answered j proof) off t = absurd (off j proof refl)
+counted_other _ off t = refl

@@ -5,3 +5,4 @@ pub mod Summed
 pub mod Concluding
 pub mod Replying
 pub mod Identities
+pub mod Terms
