@@ -1,12 +1,17 @@
 -- Which records belong to which versions, as the tables tell it.
-use Rattle.std.proofs.Common.{◌≡◌, ◌<◌, ◌≤◌, ℕ, zero, suc, List, [], ◌∷◌, map, length, refl, sym, ap, ap₂, ◌∙◌, subst, arith, Bool, true, false, ◌||◌, ◌&&◌, ◌⊎◌, inl, inr}
-use Rattle.std.specs.Prelude.{Option, Some, None, IsTrue, ◌↔◌, Contains, slice_index_or}
+use Rattle.std.proofs.Common.{◌≡◌, ◌<◌, ◌≤◌, ◌+◌, ℕ, zero, suc, List, [], ◌∷◌, map, length, refl, sym, ap, ap₂, ◌∙◌, subst, arith, Bool, true, false, ◌||◌, ◌&&◌, ◌⊎◌, inl, inr}
+use Rattle.std.proofs.lemmas.Bool.Decides.{nat_tests}
+use Rattle.std.specs.Prelude.{Option, Some, None, IsTrue, ◌↔◌, ◌==◌, Contains, slice_index_or}
+use Rattle.std.specs.declared.sync.Arc.{Arc}
+use Rattle.std.specs.declared.alloc.Global.{Global}
 use Rattle.seg_tree.specs.Trees.{Tree, run, run_maybe}
 use Rattle.seg_tree.specs.Table.{tree, root_tree}
 use Rattle.ps_script.specs.declared.name.Place.{Place}
 use Rattle.ps_versions.specs.Held as held
 use Rattle.ps_versions.specs.Lookup.{root_of}
 use Rattle.ps_versions.specs.Questions.{segments, segments_maybe}
+use Rattle.ps_prim.specs.declared.items.Item.{Item as AnItem}
+use Rattle.ps_reach.specs.Runs.{prims_of}
 use Rattle.ps_reach.specs.declared.record.Record.{Record}
 use Rattle.ps_reach.specs.declared.judged.Judged.{Judged}
 use Rattle.ps_journal.specs.Mapped.{mapped}
@@ -41,6 +46,17 @@ contains_map f (x ∷ xs) y (zero, near, e) = record { item = x; within = (zero,
 contains_map f (x ∷ xs) y (suc k, near, e) =
     let rest = contains_map f xs y (k, omega arith, e) in
     record { item = rest.item; within = (suc rest.within.0, omega (arith, rest.within.1), rest.within.2); same = rest.same }
+
+-- whether a list is empty
+pub empty_told : (L : List (Arc AnItem Global)) (xs : List Item) (b : Bool) → map prims_of L ≡ xs → b ≡ (length L == 0) → IsTrue b ↔ (xs ≡ [])
+empty_told [] xs b e h = (λ _. sym e, λ _. h)
+empty_told (x ∷ L) xs b e h = (λ k. absurd (some (length L) (sym h ∙ k)), λ k. absurd (more (sym k ∙ sym e)))
+  where
+    some : (n : ℕ) → (n + 1 == 0) ≡ true → ⊥
+    some n q = grind (arith, nat_tests)
+
+    more : [] ≡ prims_of x ∷ map prims_of L → ⊥
+    more q = cc
 
 -- what a test tells
 either : (a b c : Bool) → (a || (b && c)) ≡ true → (a ≡ true) ⊎ ((b ≡ true) × (c ≡ true))
