@@ -1,6 +1,6 @@
 -- What the fields stand for once the pins of a seat are released.
-use Rattle.std.proofs.Common.{◌≡◌, ◌<◌, ◌≤◌, ℕ, length, refl, sym, ap, ◌∙◌, subst, arith}
-use Rattle.std.specs.Prelude.{Option, Some, None, slice_set}
+use Rattle.std.proofs.Common.{◌≡◌, ◌<◌, ◌≤◌, ℕ, zero, suc, List, [], ◌∷◌, length, refl, sym, ap, ◌∙◌, subst, arith}
+use Rattle.std.specs.Prelude.{Option, Some, None, slice_set, slice_index_or}
 use Rattle.ps_script.specs.declared.name.Place.{Place}
 use Rattle.ps_versions.specs.Held.{Held, Version}
 use Rattle.ps_versions.specs.Lives.{IsLive}
@@ -18,6 +18,15 @@ use Rattle.ps_views.specs.declared.filed.Filed.{Filed}
 use Rattle.ps_views.proofs.Counting.{set_same}
 use Rattle.ps_views.proofs.Holding.{carries, fades_nothing, room_left, still_live, still_live_maybe, release_sound, release_stands, hold_sound, hold_stands}
 use Rattle.ps_book.specs.Releases.{Releases}
+
+-- what is read at an index
+pub read_at : {A : Type 0} (xs : List A) (i : ℕ) (d e o : A) → i < length xs → slice_index_or xs i d ≡ o → slice_index_or xs i e ≡ o
+read_at [] i d e o h q = absurd (omega (arith, h))
+read_at (x ∷ xs) zero d e o h q = q
+read_at (x ∷ xs) (suc i) d e o h q = read_at xs i d e o (omega arith) q
+
+pub pin_read : (f : Fields) (seat : ℕ) (d o : Option Pin) → IsSound f → seat < 64 → slice_index_or f.pins seat d ≡ o → pin_at f seat ≡ o
+pin_read f seat d o sound near e = read_at f.pins seat d None o (omega (arith, near, sound.seats.0)) e
 
 pub lives_live : (f : Fields) (p : Place) (qubits : ℕ) → LivesAt f p qubits → IsLiveAt f.versions p
 lives_live f p qubits l = subst (λ o. IsLive o) (sym l.version_is) l.live

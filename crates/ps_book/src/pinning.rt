@@ -77,12 +77,12 @@ impl Service {
         ensures reply { result ≡ Pinned }
     {
         self.release(number, seat);
-        pin_both(&mut self.versions, &first, &second);
         self.pins[seat as usize] = Some(Pin {
             first,
             second,
             refused: None,
         });
+        pin_both(&mut self.versions, &first, &second);
         Reply::Pinned
     }
 

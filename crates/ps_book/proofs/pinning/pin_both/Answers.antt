@@ -16,18 +16,18 @@ returns-in-None c =
     subst (λ o. Becomes (λ q x y. Rises (pins_by q (Some (new_pin p o))) x y) h c.pin.new.self) (sym c.in-None.is)
     (rises_alone h p c.requires.room c.requires.live c.pin.new.self (rises_first h p c.requires.room c.requires.live c.pin.new.self c.pin.ensures.circuits c.pin.ensures.nodes c.pin.ensures.kept))
 
-pub pin-in-Some-requires-clause-live : goal.pin-in-Some-requires-clause-live
-pin-in-Some-requires-clause-live c =
+pub pin-requires-in-Some-clause-live : goal.pin-requires-in-Some-clause-live
+pin-requires-in-Some-clause-live c =
     let h = c.args.versions.now in
     let p = c.args.first.now in
-    second_is_live h p c.requires.room c.requires.live c.in-Some.second.now c.pin.new.self (subst (IsLiveAtMaybe h) c.in-Some.is c.requires.also)
+    second_is_live h p c.requires.room c.requires.live c.in-Some.second c.pin.new.self (subst (IsLiveAtMaybe h) c.in-Some.is c.requires.also)
     (rises_first h p c.requires.room c.requires.live c.pin.new.self c.pin.ensures.circuits c.pin.ensures.nodes c.pin.ensures.kept)
 
-pub pin-in-Some-requires-clause-room : goal.pin-in-Some-requires-clause-room
-pin-in-Some-requires-clause-room c =
+pub pin-requires-in-Some-clause-room : goal.pin-requires-in-Some-clause-room
+pin-requires-in-Some-clause-room c =
     let h = c.args.versions.now in
     let p = c.args.first.now in
-    second_has_few h p c.requires.room c.requires.live c.in-Some.second.now c.pin.new.self (subst (IsLiveAtMaybe h) c.in-Some.is c.requires.also)
+    second_has_few h p c.requires.room c.requires.live c.in-Some.second c.pin.new.self (subst (IsLiveAtMaybe h) c.in-Some.is c.requires.also)
     (rises_first h p c.requires.room c.requires.live c.pin.new.self c.pin.ensures.circuits c.pin.ensures.nodes c.pin.ensures.kept)
 
 pub returns-in-Some : goal.returns-in-Some
@@ -35,6 +35,6 @@ returns-in-Some c =
     let h = c.args.versions.now in
     let p = c.args.first.now in
     subst (λ o. Becomes (λ q x y. Rises (pins_by q (Some (new_pin p o))) x y) h c.pin-in-Some.new.self) (sym c.in-Some.is)
-    (rises_both h p c.requires.room c.requires.live c.in-Some.second.now c.pin.new.self (subst (IsLiveAtMaybe h) c.in-Some.is c.requires.also)
+    (rises_both h p c.requires.room c.requires.live c.in-Some.second c.pin.new.self (subst (IsLiveAtMaybe h) c.in-Some.is c.requires.also)
     (rises_first h p c.requires.room c.requires.live c.pin.new.self c.pin.ensures.circuits c.pin.ensures.nodes c.pin.ensures.kept)
     c.pin-in-Some.new.self c.pin-in-Some.ensures.circuits c.pin-in-Some.ensures.nodes c.pin-in-Some.ensures.kept)
