@@ -20,7 +20,7 @@ returns-in-None c =
     }
 
 pub lightest_of_two-requires-clause-first : goal.lightest_of_two-requires-clause-first
-lightest_of_two-requires-clause-first c = kept_there (fields_of c.args.self.now) c.in-Some.second.now (c.requires.second c.in-Some.second.now c.in-Some.is)
+lightest_of_two-requires-clause-first c = kept_there (fields_of c.args.self.now) c.in-Some.second (c.requires.second c.in-Some.second c.in-Some.is)
 
 pub lightest_of_two-requires-clause-second : goal.lightest_of_two-requires-clause-second
 lightest_of_two-requires-clause-second c = kept_there (fields_of c.args.self.now) c.args.pin.now.first c.requires.first
@@ -30,19 +30,22 @@ returns-then-comes_before c =
     let s = c.args.self.now in
     let f = fields_of s in
     let pin = c.args.pin.now in
-    let q = c.in-Some.second.now in
+    let q = c.in-Some.second in
     record {
       value = c.lightest_of_two.ensures.value ∙ sym (pinned_before f s.sound (weight_by s.claims.seats) pin q c.in-Some.is c.requires (sym c.comes_before.ensures ∙ c.if-comes_before.true));
       ready = ready_two f s.sound (weight_by s.claims.seats) q pin.first (c.requires.second q c.in-Some.is) c.requires.first c.lightest_of_two.result c.lightest_of_two.ensures.value;
       settled = settled_before f pin q c.lightest_of_two.result c.in-Some.is c.lightest_of_two.ensures.none;
     }
 
+pub lightest_of_two-requires-else-comes_before-clause-second : goal.lightest_of_two-requires-else-comes_before-clause-second
+lightest_of_two-requires-else-comes_before-clause-second c = kept_there (fields_of c.args.self.now) c.in-Some.second (c.requires.second c.in-Some.second c.in-Some.is)
+
 pub returns-else-comes_before : goal.returns-else-comes_before
 returns-else-comes_before c =
     let s = c.args.self.now in
     let f = fields_of s in
     let pin = c.args.pin.now in
-    let q = c.in-Some.second.now in
+    let q = c.in-Some.second in
     record {
       value = c.lightest_of_two-else-comes_before.ensures.value ∙ sym (pinned_behind f s.sound (weight_by s.claims.seats) pin q c.in-Some.is c.requires (sym c.comes_before.ensures ∙ c.if-comes_before.false));
       ready = ready_two f s.sound (weight_by s.claims.seats) pin.first q c.requires.first (c.requires.second q c.in-Some.is) c.lightest_of_two-else-comes_before.result c.lightest_of_two-else-comes_before.ensures.value;

@@ -30,5 +30,5 @@ returns-then-qubits-others-clause-leaves c =
 pub returns-else-qubits-others-clause-leaves : goal.returns-else-qubits-others-clause-leaves
 returns-else-qubits-others-clause-leaves c =
     let s = c.args.self.now in
-    λ t so. two_pinned (fields_of s) s.sound.tabled c.args.number c.args.seat c.args.first c.args.second c.hold-else-qubits-others.result t so (fields_of c.hold-else-qubits-others.new.self) c.hold-else-qubits-others.ensures.reply
-        c.in-Some.other c.in-Ok.qubits c.in-Ok-live_at.others c.in-Some.is c.in-Ok.ensures.told c.in-Ok-live_at.ensures.told c.if-qubits-others.false (c.hold-else-qubits-others.ensures.stands t so)
+    λ t so. two_pinned (fields_of s) s.sound.tabled c.args.number c.args.seat c.args.first c.args.second c.hold-in-Ok-live_at.result t so (fields_of c.hold-in-Ok-live_at.new.self) c.hold-in-Ok-live_at.ensures.reply
+        c.in-Some.other c.in-Ok.qubits c.in-Ok-live_at.others c.in-Some.is c.in-Ok.ensures.told c.in-Ok-live_at.ensures.told c.if-qubits-others.false (c.hold-in-Ok-live_at.ensures.stands t so)
