@@ -29,9 +29,9 @@ use Rattle.ps_book.specs.Conclusions.{counted, Fits, Concludes, TellsPair, Concl
 -- ---- a question that is given up, or is ended by what ends none
 module _ (f : Fields) (pin : Pin) where
   pub gives_up : (o : Outcome) (r : Reply) → GivesUp pin o r → Concludes f pin o r
-  gives_up Starved Memory summing.starved = record { fits = tt; answers = λ t i seat so is. inl (judging.gives_up is summing.starved) }
-  gives_up Crowded r (summing.crowded e) = record { fits = tt; answers = λ t i seat so is. inl (judging.gives_up is (summing.crowded e)) }
-  gives_up Crowded r (summing.not_crowded e) = record { fits = tt; answers = λ t i seat so is. inl (judging.gives_up is (summing.not_crowded e)) }
+  gives_up o r summing.starved = record { fits = tt; answers = λ t i seat so is. inl (judging.gives_up is summing.starved) }
+  gives_up o r (summing.crowded e) = record { fits = tt; answers = λ t i seat so is. inl (judging.gives_up is (summing.crowded e)) }
+  gives_up o r (summing.not_crowded e) = record { fits = tt; answers = λ t i seat so is. inl (judging.gives_up is (summing.not_crowded e)) }
 
   pub ends_none : (r : Reply) → r ≡ OtherRun → Concludes f pin Done r
   ends_none r e = subst (Concludes f pin Done) (sym e) (record { fits = tt; answers = λ t i seat so is. inl (judging.done is) })

@@ -1,10 +1,12 @@
 -- What is given to a seat, or told to it where nothing is left.
 use Rattle.std.proofs.Common.{◌≡◌, ◌<◌, ◌≤◌, ℕ, zero, suc, List, [], ◌∷◌, length, refl, sym, ap, ap₂, ◌∙◌, subst, arith, Bool, true, false, ◌&&◌, not, inl, inr}
-use Rattle.std.specs.Prelude.{Option, Some, None, is_none, is_some, IsSome, IfSome, slice_set, slice_index_or}
+use Rattle.std.specs.Prelude.{Option, Some, None, is_none, is_some, IsSome, IfSome, count_by, slice_set, slice_index_or}
 use Rattle.std.specs.declared.sync.Arc.{Arc}
 use Rattle.std.specs.declared.alloc.Global.{Global}
 use Rattle.seg_tree.specs.Trees.{Tree, leaf, branch, name_of, run}
 use Rattle.seg_tree.specs.Table.{tree}
+use Rattle.seg_tree.specs.declared.node.Seen.TheVariants as seen
+use Rattle.seg_tree.specs.Seen.{Shows}
 use Rattle.ps_script.specs.declared.name.Place.{Place}
 use Rattle.ps_versions.specs.Held.{Held, Version, Circuit}
 use Rattle.ps_versions.specs.Lookup.{circuit_at}
@@ -20,7 +22,7 @@ use Rattle.ps_journal.specs.declared.seats.Claim.{Claim}
 use Rattle.ps_journal.specs.declared.replies.Reply.{Reply}
 use Rattle.ps_journal.specs.declared.replies.Reply.TheVariants.{Idle, NoPin, Memory, Task}
 use Rattle.ps_journal.specs.State.{Item, State, pin_of, unclaimed}
-use Rattle.ps_journal.specs.Claiming.{Standing, LooksAt, all, own, Nexts, no_pin, claimed, kept_versions, pinned_versions}
+use Rattle.ps_journal.specs.Claiming.{Standing, claims_node, LooksAt, all, own, Nexts, no_pin, claimed, kept_versions, pinned_versions}
 use Rattle.ps_views.specs.Views.{run_of_leaf, run_at}
 use Rattle.ps_views.specs.Fields.{Fields, IsSound, held_at, pin_at, passed}
 use Rattle.ps_views.specs.Stands.{Stands, Leaves}
@@ -35,6 +37,9 @@ use Rattle.ps_views.proofs.PinnedLaws.{pinned_one, pinned_before, pinned_behind}
 use Rattle.ps_views.proofs.Pinned.{has_pinned}
 use Rattle.ps_views.proofs.TaskLaws.{Picks, picks_kept, picks_pinned, given_nexts, given_stands, idle_nexts, settled_nexts}
 use Rattle.ps_book.specs.Wanting.{NextsOr, Starves}
+use Rattle.ps_book.specs.Counts.{claims_of}
+use Rattle.ps_book.specs.declared.claims.Claims.{Claims}
+use Rattle.std.proofs.lemmas.List.{take_all}
 
 -- ---- what is answered, once the old claim has ended
 module _ (f : Fields) (t : State) (i seat : ℕ) (sound : IsSound f) (so : Stands f (unclaimed seat t)) where
@@ -169,6 +174,9 @@ module _ (f : Fields) where
     pub left_named : name_of (tree f.versions.nodes left) ≡ Some left
     pub right_named : name_of (tree f.versions.nodes right) ≡ Some right
 
+  pub branch_of : (ns : List (Tree ℕ)) (k left right : ℕ) → ns ≡ f.versions.nodes → Shows ns k (seen.Branch left right) → IsBranch k left right
+  branch_of ns k left right e h = let s = subst (λ ms. Shows ms k (seen.Branch left right)) e h in record { same = s.0; left_named = s.3; right_named = s.4 }
+
   module _ (k left right : ℕ) (b : IsBranch k left right) (ready : is_ready f.versions.kept passed (tree f.versions.nodes k) ≡ true) where
     sides : (has_sum f.versions.kept passed (tree f.versions.nodes left) ≡ true) × (has_sum f.versions.kept passed (tree f.versions.nodes right) ≡ true)
     sides = parts (lacks f.versions.kept (branch (Some k) (tree f.versions.nodes left) (tree f.versions.nodes right)))
@@ -196,3 +204,7 @@ module _ (f : Fields) where
     pub branch_work : (x y : Arc Record Global) → ((e : ℕ × Filed) → record_at f.versions.kept left ≡ Some e → x.value ≡ e.1.shared.value)
         → ((e : ℕ × Filed) → record_at f.versions.kept right ≡ Some e → y.value ≡ e.1.shared.value) → IsWorkAt f (tree f.versions.nodes k) (Children x y)
     branch_work x y g h = subst (λ s. IsWorkAt f s (Children x y)) (sym b.same) (filed_at left b.left_named left_some x.value g, filed_at right b.right_named right_some y.value h)
+
+-- the weights that claims give are those of all seats
+pub claims_weigh : (c : Claims) → length c.seats ≡ 64 → claims_of c ≡ weight_by c.seats
+claims_weigh c e = ap (λ seats k. count_by (claims_node (Some k)) seats) (take_all 64 c.seats (omega (arith, e)))

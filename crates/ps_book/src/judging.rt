@@ -1,6 +1,6 @@
 //! How questions about two versions end.
 ghost use Rattle.std.specs.Prelude.{◌≡◌, ◌<◌, true, false, None, IfOk};
-ghost use Rattle.ps_journal.specs.declared.commands.Outcome.TheVariants.{Judged, Crowded};
+ghost use Rattle.ps_journal.specs.declared.commands.Outcome.TheVariants.{Crowded};
 ghost use Rattle.ps_journal.specs.declared.replies.Reply.TheVariants.{Answered};
 ghost use Rattle.ps_journal.specs.Plain.{is_plain};
 ghost use Rattle.ps_journal.specs.Summing.{GivesUp};
@@ -53,7 +53,7 @@ impl Service {
     /// What a comparison of two records under a pin is answered.
     fn judged_told(&self, pin: &Pin, judged: &Arc<Judged>, proof: bool) -> Told
         requires { HasPinned (fields_of self.now) pin.now }
-        ensures { Concludes (fields_of self.now) pin.now (Judged judged.now proof) result.reply }
+        ensures { Concludes (fields_of self.now) pin.now (Outcome.Judged judged.now proof) result.reply }
     {
         if !self.are_pinned(pin, judged) {
             return Told::plain(Reply::OtherRun);

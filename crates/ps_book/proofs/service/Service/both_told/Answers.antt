@@ -9,11 +9,11 @@ whole_at-requires-clause-kept c = c.requires.pinned.first
 pub whole_at-requires-clause-settled : goal.whole_at-requires-clause-settled
 whole_at-requires-clause-settled c = c.requires.settled.first
 
-pub whole_maybe-second-requires-clause-kept : goal.whole_maybe-second-requires-clause-kept
-whole_maybe-second-requires-clause-kept c = c.requires.pinned.second
+pub whole_maybe-requires-clause-kept : goal.whole_maybe-requires-clause-kept
+whole_maybe-requires-clause-kept c = c.requires.pinned.second
 
-pub whole_maybe-second-requires-clause-settled : goal.whole_maybe-second-requires-clause-settled
-whole_maybe-second-requires-clause-settled c = c.requires.settled.second
+pub whole_maybe-requires-clause-settled : goal.whole_maybe-requires-clause-settled
+whole_maybe-requires-clause-settled c = c.requires.settled.second
 
 pub returns : goal.returns
 returns c =

@@ -1,5 +1,5 @@
 use Rattle.std.proofs.Common.{◌≡◌, sym, subst, refl}
-use Rattle.ps_views.specs.Tasks.{Gives, given, starved}
+use Rattle.ps_views.specs.Tasks.{Gives, given, starved, claims_with}
 use Rattle.ps_views.proofs.SeatLaws.{claimed_sound}
 use Rattle.ps_book.specs.Services.{fields_of}
 use Rattle.ps_book.proofs.Giving.{ready_segment, ready_sides}
@@ -20,4 +20,4 @@ pub returns-in-Ok : goal.returns-in-Ok
 returns-in-Ok c =
     let f = fields_of c.args.self.now in
     let h = c.in-Ok.ensures in
-    subst (λ x. Gives f c.args.number c.args.seat c.args.ready x _) (sym h.reply) (given h.is refl)
+    subst (λ x. Gives f c.args.number c.args.seat c.args.ready x (claims_with c.args.number c.args.seat c.args.ready f)) (sym h.reply) (given h.is refl)

@@ -1,5 +1,5 @@
 use Rattle.std.proofs.Common.{◌≡◌, ap, ◌∙◌, sym}
-use Rattle.ps_views.proofs.Fewest.{weight_by}
+use Rattle.ps_book.specs.Counts.{claims_of}
 use Rattle.ps_views.proofs.PinnedLaws.{pinned_one, pinned_before, pinned_behind}
 use Rattle.ps_book.specs.Services.{fields_of}
 use Rattle.ps_book.proofs.Giving.{kept_there, ready_one, ready_two, settled_one, settled_behind, settled_before}
@@ -14,8 +14,8 @@ returns-in-None c =
     let f = fields_of s in
     let pin = c.args.pin.now in
     record {
-      value = c.lightest_at.ensures.value ∙ sym (pinned_one f s.sound (weight_by s.claims.seats) pin c.in-None.is c.requires);
-      ready = ready_one f s.sound (weight_by s.claims.seats) pin.first c.requires.first c.lightest_at.result c.lightest_at.ensures.value;
+      value = c.lightest_at.ensures.value ∙ sym (pinned_one f s.sound (claims_of s.claims) pin c.in-None.is c.requires);
+      ready = ready_one f s.sound (claims_of s.claims) pin.first c.requires.first c.lightest_at.result c.lightest_at.ensures.value;
       settled = settled_one f pin c.lightest_at.result c.in-None.is c.lightest_at.ensures.none;
     }
 
@@ -32,8 +32,8 @@ returns-then-comes_before c =
     let pin = c.args.pin.now in
     let q = c.in-Some.second in
     record {
-      value = c.lightest_of_two.ensures.value ∙ sym (pinned_before f s.sound (weight_by s.claims.seats) pin q c.in-Some.is c.requires (sym c.comes_before.ensures ∙ c.if-comes_before.true));
-      ready = ready_two f s.sound (weight_by s.claims.seats) q pin.first (c.requires.second q c.in-Some.is) c.requires.first c.lightest_of_two.result c.lightest_of_two.ensures.value;
+      value = c.lightest_of_two.ensures.value ∙ sym (pinned_before f s.sound (claims_of s.claims) pin q c.in-Some.is c.requires (sym c.comes_before.ensures ∙ c.if-comes_before.true));
+      ready = ready_two f s.sound (claims_of s.claims) q pin.first (c.requires.second q c.in-Some.is) c.requires.first c.lightest_of_two.result c.lightest_of_two.ensures.value;
       settled = settled_before f pin q c.lightest_of_two.result c.in-Some.is c.lightest_of_two.ensures.none;
     }
 
@@ -47,7 +47,7 @@ returns-else-comes_before c =
     let pin = c.args.pin.now in
     let q = c.in-Some.second in
     record {
-      value = c.lightest_of_two-else-comes_before.ensures.value ∙ sym (pinned_behind f s.sound (weight_by s.claims.seats) pin q c.in-Some.is c.requires (sym c.comes_before.ensures ∙ c.if-comes_before.false));
-      ready = ready_two f s.sound (weight_by s.claims.seats) pin.first q c.requires.first (c.requires.second q c.in-Some.is) c.lightest_of_two-else-comes_before.result c.lightest_of_two-else-comes_before.ensures.value;
+      value = c.lightest_of_two-else-comes_before.ensures.value ∙ sym (pinned_behind f s.sound (claims_of s.claims) pin q c.in-Some.is c.requires (sym c.comes_before.ensures ∙ c.if-comes_before.false));
+      ready = ready_two f s.sound (claims_of s.claims) pin.first q c.requires.first (c.requires.second q c.in-Some.is) c.lightest_of_two-else-comes_before.result c.lightest_of_two-else-comes_before.ensures.value;
       settled = settled_behind f pin q c.lightest_of_two-else-comes_before.result c.in-Some.is c.lightest_of_two-else-comes_before.ensures.none;
     }

@@ -1,8 +1,9 @@
 use Rattle.ps_book.specs.Services.{fields_of}
-use Rattle.ps_book.proofs.Giving.{leaf_work, left_some, right_some, branch_work}
+use Rattle.ps_book.proofs.Giving.{branch_of, branch_work}
 use Rattle.ps_book.proofs.service.Service.work.Goals as goal
 
-pub record_of-first-requires : goal.record_of-first-requires
-record_of-first-requires c =
-    let look = c.look.ensures in
-    left_some (fields_of c.args.self.now) c.args.node c.in-Branch.left c.in-Branch.right (record { same = c.in-Branch.ensures.0; left_named = c.in-Branch.ensures.3; right_named = c.in-Branch.ensures.4 }) c.requires.ready
+pub returns-in_ok-second-in-Branch : goal.returns-in_ok-second-in-Branch
+returns-in_ok-second-in-Branch c =
+    branch_work (fields_of c.args.self.now) c.args.node c.in-Branch.left c.in-Branch.right
+    (branch_of (fields_of c.args.self.now) c.nodes.result.now c.args.node c.in-Branch.left c.in-Branch.right c.nodes.ensures.nodes c.in-Branch.ensures) c.requires.ready
+    c.in_ok-first.first c.in_ok-second.second c.in_ok-first.ensures c.in_ok-second.ensures
