@@ -58,27 +58,14 @@ empty_told (x ∷ L) xs b e h = (λ k. absurd (some (length L) (sym h ∙ k)), �
     more : [] ≡ prims_of x ∷ map prims_of L → ⊥
     more q = cc
 
--- what a test tells
-either : (a b c : Bool) → (a || (b && c)) ≡ true → (a ≡ true) ⊎ ((b ≡ true) × (c ≡ true))
-either true b c e = inl refl
-either false true true e = inr (refl, refl)
-either false true false e = cc
-either false false c e = cc
-
-or_left : (a b c : Bool) → a ≡ true → (a || (b && c)) ≡ true
-or_left true b c e = refl
-or_left false b c e = cc
-
-or_right : (a b c : Bool) → b ≡ true → c ≡ true → (a || (b && c)) ≡ true
-or_right true b c e h = refl
-or_right false true true e h = refl
-or_right false true false e h = cc
-or_right false false c e h = cc
+off : (b : Bool) → b ≡ false → b ≡ true → ⊥
+off true e h = cc
+off false e h = cc
 
 module _ (f : Fields) (sound : IsSound f) (p : Place) (k : KeptAt f p) (r : Record) where
   -- a record on another number of qubits
   pub other_width : (r.n ≡ k.circuit.qubits → ⊥) → TellsOne f p r false
-  other_width off t c v so found = (λ e. cc, λ b. absurd (off (b.qubits ∙ (seen_at f sound p k t so c v found).0)))
+  other_width differs t c v so found = (λ e. cc, λ b. absurd (differs (b.qubits ∙ (seen_at f sound p k t so c v found).0)))
 
   module _ (width : r.n ≡ k.circuit.qubits) where
     abbrev there : Version
@@ -101,8 +88,7 @@ module _ (f : Fields) (sound : IsSound f) (p : Place) (k : KeptAt f p) (r : Reco
         by (Some x) e items (inr h) = cc
 
     -- of a version with a root: of all items, or else of those of a segment, where a limit was passed
-    module _ (root : ℕ) (at : root_of (held_at f.versions p) ≡ Some root) (a b c : Bool)
-        (whole : IsTrue a ↔ (r.items.value ≡ run_at f.items f.versions.nodes root)) (over : b ≡ is_passed r) (some : IsTrue c ↔ HasRun f.items (tree f.versions.nodes root) r.items.value) where
+    module _ (root : ℕ) (at : root_of (held_at f.versions p) ≡ Some root) where
       root_is : k.version.root ≡ Some root
       root_is = sym (ap root_of k.version_is) ∙ at
 
@@ -124,25 +110,31 @@ module _ (f : Fields) (sound : IsSound f) (p : Place) (k : KeptAt f p) (r : Reco
           let x = contains_map (mapped (item_at f.items)) (segments (tree f.versions.nodes root)) s (subst (λ ss. Contains ss s) segments_are within) in
           record { segment = x.item; within = x.within; same = e ∙ ap run (sym x.same) ∙ run-mapped (item_at f.items) x.item }
 
-      forth : (d : Circuit) → d.qubits ≡ k.circuit.qubits → (a || (b && c)) ≡ true → Belongs d (version_of f.items f.versions.nodes k.version) r
-      forth d q e = by (either a b c e)
-        where
-          by : (a ≡ true) ⊎ ((b ≡ true) × (c ≡ true)) → Belongs d (version_of f.items f.versions.nodes k.version) r
-          by (inl h) = record { qubits = width ∙ sym q; items = inl (whole.0 h ∙ sym items_are) }
-          by (inr h) = record { qubits = width ∙ sym q; items = inr (sym over ∙ h.0, has_segment (some.0 h.1)) }
-
-      back : (d : Circuit) → Belongs d (version_of f.items f.versions.nodes k.version) r → (a || (b && c)) ≡ true
-      back d h = by h.items
-        where
-          by : (r.items.value ≡ (version_of f.items f.versions.nodes k.version).items)
-              ⊎ ((is_passed r ≡ true) × ((s : Tree Item) × (Contains (segments_of (version_of f.items f.versions.nodes k.version).tree) s × (r.items.value ≡ run s)))) → (a || (b && c)) ≡ true
-          by (inl e) = or_left a b c (whole.1 (e ∙ items_are))
-          by (inr (q, s, within, e)) = or_right a b c (over ∙ q) (some.1 (segment_has s within e))
-
-      pub belongs_at : TellsOne f p r (a || (b && c))
-      belongs_at t d v so found =
+      pub whole_belongs : (a : Bool) → a ≡ true → IsTrue a ↔ (r.items.value ≡ run_at f.items f.versions.nodes root) → TellsOne f p r a
+      whole_belongs a on whole t d v so found =
           let s = seen_at f sound p k t so d v found in
-          subst (λ w. IsTrue (a || (b && c)) ↔ Belongs d w r) (sym s.1) (forth d s.0, back d)
+          subst (λ w. IsTrue a ↔ Belongs d w r) (sym s.1) (λ e. record { qubits = width ∙ sym s.0; items = inl (whole.0 e ∙ sym items_are) }, λ h. on)
+
+      module _ (a b : Bool) (other : a ≡ false) (whole : IsTrue a ↔ (r.items.value ≡ run_at f.items f.versions.nodes root)) (over : b ≡ is_passed r) where
+        pub part_belongs : (c : Bool) → b ≡ true → IsTrue c ↔ HasRun f.items (tree f.versions.nodes root) r.items.value → TellsOne f p r c
+        part_belongs c on some t d v so found =
+            let s = seen_at f sound p k t so d v found in
+            subst (λ w. IsTrue c ↔ Belongs d w r) (sym s.1) (λ e. record { qubits = width ∙ sym s.0; items = inr (sym over ∙ on, has_segment (some.0 e)) }, λ h. by h.items)
+          where
+            by : (r.items.value ≡ (version_of f.items f.versions.nodes k.version).items)
+                ⊎ ((is_passed r ≡ true) × ((s : Tree Item) × (Contains (segments_of (version_of f.items f.versions.nodes k.version).tree) s × (r.items.value ≡ run s)))) → c ≡ true
+            by (inl e) = absurd (off a other (whole.1 (e ∙ items_are)))
+            by (inr (q, s, within, e)) = some.1 (segment_has s within e)
+
+        pub none_belongs : b ≡ false → TellsOne f p r b
+        none_belongs none t d v so found =
+            let s = seen_at f sound p k t so d v found in
+            subst (λ w. IsTrue b ↔ Belongs d w r) (sym s.1) (λ e. absurd (off b none e), λ h. by h.items)
+          where
+            by : (r.items.value ≡ (version_of f.items f.versions.nodes k.version).items)
+                ⊎ ((is_passed r ≡ true) × ((s : Tree Item) × (Contains (segments_of (version_of f.items f.versions.nodes k.version).tree) s × (r.items.value ≡ run s)))) → b ≡ true
+            by (inl e) = absurd (off a other (whole.1 (e ∙ items_are)))
+            by (inr (q, s, within, e)) = over ∙ q
 
 -- ---- both records
 -- each record belongs to the version in its place
