@@ -52,7 +52,7 @@ pub empty_told : (L : List (Arc AnItem Global)) (xs : List Item) (b : Bool) → 
 empty_told [] xs b e h = (λ _. sym e, λ _. h)
 empty_told (x ∷ L) xs b e h = (λ k. absurd (some (length L) (sym h ∙ k)), λ k. absurd (more (sym k ∙ sym e)))
   where
-    some : (n : ℕ) → (n + 1 == 0) ≡ true → ⊥
+    some : (n : ℕ) → (suc n == 0) ≡ true → ⊥
     some n q = grind (arith, nat_tests)
 
     more : [] ≡ prims_of x ∷ map prims_of L → ⊥
@@ -84,7 +84,7 @@ module _ (f : Fields) (sound : IsSound f) (p : Place) (k : KeptAt f p) (r : Reco
       where
         by : (o : Option (Tree Item)) → o ≡ None → v.items ≡ [] → (r.items.value ≡ v.items) ⊎ ((is_passed r ≡ true) × ((s : Tree Item) × (Contains (segments_of o) s × (r.items.value ≡ run s)))) → r.items.value ≡ []
         by o e items (inl h) = h ∙ items
-        by None e items (inr (q, s, within, h)) = absurd (omega (arith, within.1))
+        by None e items (inr (q, (s, (within, h)))) = absurd (omega (arith, within.1))
         by (Some x) e items (inr h) = cc
 
     -- of a version with a root: of all items, or else of those of a segment, where a limit was passed
@@ -99,11 +99,9 @@ module _ (f : Fields) (sound : IsSound f) (p : Place) (k : KeptAt f p) (r : Reco
       segments_are = segments_of_mapped (item_at f.items) (root_tree f.versions.nodes k.version.root) ∙ ap (λ o. map (mapped (item_at f.items)) (segments_maybe (root_tree f.versions.nodes o))) root_is
 
       has_segment : HasRun f.items (tree f.versions.nodes root) r.items.value → (s : Tree Item) × (Contains (segments_of (version_of f.items f.versions.nodes k.version).tree) s × (r.items.value ≡ run s))
-      has_segment h = (
-        mapped (item_at f.items) h.segment,
-        subst (λ ss. Contains ss (mapped (item_at f.items) h.segment)) (sym segments_are) (map_contains (mapped (item_at f.items)) (segments (tree f.versions.nodes root)) h.segment h.within),
-        h.same ∙ sym (run-mapped (item_at f.items) h.segment),
-      )
+      has_segment h =
+          let within = map_contains (mapped (item_at f.items)) (segments (tree f.versions.nodes root)) h.segment h.within in
+          (mapped (item_at f.items) h.segment, (subst (λ ss. Contains ss (mapped (item_at f.items) h.segment)) (sym segments_are) within, h.same ∙ sym (run-mapped (item_at f.items) h.segment)))
 
       segment_has : (s : Tree Item) → Contains (segments_of (version_of f.items f.versions.nodes k.version).tree) s → r.items.value ≡ run s → HasRun f.items (tree f.versions.nodes root) r.items.value
       segment_has s within e =
@@ -124,7 +122,7 @@ module _ (f : Fields) (sound : IsSound f) (p : Place) (k : KeptAt f p) (r : Reco
             by : (r.items.value ≡ (version_of f.items f.versions.nodes k.version).items)
                 ⊎ ((is_passed r ≡ true) × ((s : Tree Item) × (Contains (segments_of (version_of f.items f.versions.nodes k.version).tree) s × (r.items.value ≡ run s)))) → c ≡ true
             by (inl e) = absurd (off a other (whole.1 (e ∙ items_are)))
-            by (inr (q, s, within, e)) = some.1 (segment_has s within e)
+            by (inr (q, (s, (within, e)))) = some.1 (segment_has s within e)
 
         pub none_belongs : b ≡ false → TellsOne f p r b
         none_belongs none t d v so found =
@@ -134,7 +132,7 @@ module _ (f : Fields) (sound : IsSound f) (p : Place) (k : KeptAt f p) (r : Reco
             by : (r.items.value ≡ (version_of f.items f.versions.nodes k.version).items)
                 ⊎ ((is_passed r ≡ true) × ((s : Tree Item) × (Contains (segments_of (version_of f.items f.versions.nodes k.version).tree) s × (r.items.value ≡ run s)))) → b ≡ true
             by (inl e) = absurd (off a other (whole.1 (e ∙ items_are)))
-            by (inr (q, s, within, e)) = over ∙ q
+            by (inr (q, (s, (within, e)))) = over ∙ q
 
 -- ---- both records
 -- each record belongs to the version in its place
