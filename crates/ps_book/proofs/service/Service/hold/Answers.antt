@@ -20,8 +20,10 @@ pin_both-requires-clause-also c =
 pub invariant_of-self : goal.invariant_of-self
 invariant_of-self c =
     let s = c.args.self.now in
-    record { sound = held_sound c.args.number c.args.seat (fields_of s) s.sound c.requires.near (fields_of c.release.new.self) c.release.ensures.releases
-    c.args.first c.args.second c.requires.live c.requires.also c.pin_both.new.versions c.pin_both.ensures }
+    record {
+      sound = held_sound c.args.number c.args.seat (fields_of s) s.sound c.requires.near (fields_of c.release.new.self) c.release.ensures.releases
+          c.args.first c.args.second c.requires.live c.requires.also c.pin_both.new.versions c.pin_both.ensures;
+    }
 
 pub returns-clause-stands : goal.returns-clause-stands
 returns-clause-stands c =

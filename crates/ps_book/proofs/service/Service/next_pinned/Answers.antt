@@ -28,5 +28,5 @@ returns-in-None-lightest_of c =
 pub returns-in-Some-lightest_of : goal.returns-in-Some-lightest_of
 returns-in-Some-lightest_of c =
     let s = c.args.self.now in
-    λ t so. given_pinned_leaves (fields_of s) t c.args.number c.args.seat s.sound so c.in-Some.pin c.in-Some-lightest_of.ready c.give.result.reply (fields_of c.give.new.self) (pin_read (fields_of c.args.self.now) c.args.seat _ _ c.args.self.now.sound c.requires c.in-Some.is) 
+    λ t so. given_pinned_leaves (fields_of s) t c.args.number c.args.seat s.sound so c.in-Some.pin c.in-Some-lightest_of.ready c.give.result.reply (fields_of c.give.new.self) (pin_read (fields_of c.args.self.now) c.args.seat _ _ c.args.self.now.sound c.requires c.in-Some.is)
     (subst (λ w. lightest w (open_pinned s.versions c.in-Some.pin) ≡ Some c.in-Some-lightest_of.ready) (claims_weigh s.claims s.sound.seats.1) (sym c.in-Some-lightest_of.ensures.value)) c.give.ensures

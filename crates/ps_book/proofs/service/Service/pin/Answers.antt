@@ -31,4 +31,4 @@ pub returns-else-qubits-others-clause-leaves : goal.returns-else-qubits-others-c
 returns-else-qubits-others-clause-leaves c =
     let s = c.args.self.now in
     λ t so. two_pinned (fields_of s) s.sound.tabled c.args.number c.args.seat c.args.first c.args.second c.hold-in-Ok-live_at.result t so (fields_of c.hold-in-Ok-live_at.new.self) c.hold-in-Ok-live_at.ensures.reply
-        c.in-Some.other c.in-Ok.qubits c.in-Ok-live_at.others c.in-Some.is c.in-Ok.ensures.told c.in-Ok-live_at.ensures.told c.if-qubits-others.false (c.hold-in-Ok-live_at.ensures.stands t so)
+    c.in-Some.other c.in-Ok.qubits c.in-Ok-live_at.others c.in-Some.is c.in-Ok.ensures.told c.in-Ok-live_at.ensures.told c.if-qubits-others.false (c.hold-in-Ok-live_at.ensures.stands t so)
