@@ -1,5 +1,5 @@
-use Rattle.std.proofs.Common.{◌≡◌, subst, sym}
-use Rattle.std.specs.Prelude.{Some, None}
+use Rattle.std.proofs.Common.{subst, sym}
+use Rattle.std.specs.Prelude.{Some}
 use Rattle.ps_journal.specs.Pinning.{new_pin}
 use Rattle.ps_views.specs.Counts.{pins_by}
 use Rattle.ps_views.specs.Changes.{Becomes, Rises, IsLiveAtMaybe}

@@ -1,4 +1,4 @@
-use Rattle.std.proofs.Common.{◌≡◌, ◌++◌, List, [], ◌∷◌, map, refl, sym, ap, ◌∙◌, subst}
+use Rattle.std.proofs.Common.{◌≡◌, ◌++◌, [], ◌∷◌, map, refl, sym, ap, ◌∙◌, subst}
 use Rattle.ps_rules.specs.declared.steps.Move.TheVariants.{Id}
 use Rattle.ps_reach.specs.Runs.{prims_of}
 use Rattle.ps_journal.specs.Summing.{IsIdentity}

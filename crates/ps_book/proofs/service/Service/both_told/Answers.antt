@@ -1,4 +1,4 @@
-use Rattle.std.proofs.Common.{◌≡◌, ap, ap₂, ◌∙◌, refl}
+use Rattle.std.proofs.Common.{ap, ◌∙◌}
 use Rattle.std.proofs.lemmas.Result.{IfOk-weaker}
 use Rattle.ps_journal.specs.declared.replies.Reply.TheVariants.{Settled}
 use Rattle.ps_book.proofs.service.Service.both_told.Goals as goal

@@ -1,9 +1,7 @@
-use Rattle.std.proofs.Common.{◌≡◌, ◌+◌, ◌≤◌, sym, subst, ap, ◌∙◌, arith}
+use Rattle.std.proofs.Common.{sym, subst}
 use Rattle.ps_views.specs.Stands.{Stands}
-use Rattle.ps_book.specs.Conclusions.{Fits, counted}
 use Rattle.ps_book.specs.Services.{fields_of}
 use Rattle.ps_book.proofs.Concluding.{counted_other}
-use Rattle.ps_book.proofs.Terms.{more_sound, more_stands}
 use Rattle.ps_book.proofs.service.Service.count_answered.Goals as goal
 
 pub returns-in_default : goal.returns-in_default

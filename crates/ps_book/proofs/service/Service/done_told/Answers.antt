@@ -1,4 +1,4 @@
-use Rattle.std.proofs.Common.{◌≡◌, sym, ◌∙◌}
+use Rattle.std.proofs.Common.{sym, ◌∙◌}
 use Rattle.ps_journal.specs.declared.commands.Outcome.TheVariants.{Done}
 use Rattle.ps_book.specs.Services.{fields_of}
 use Rattle.ps_book.proofs.Giving.{kept_there}

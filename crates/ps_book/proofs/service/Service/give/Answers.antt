@@ -1,4 +1,4 @@
-use Rattle.std.proofs.Common.{◌≡◌, sym, subst, refl}
+use Rattle.std.proofs.Common.{sym, subst, refl}
 use Rattle.ps_views.specs.Tasks.{Gives, given, starved, claims_with}
 use Rattle.ps_views.proofs.SeatLaws.{claimed_sound}
 use Rattle.ps_book.specs.Services.{fields_of}

@@ -1,4 +1,4 @@
-use Rattle.std.proofs.Common.{◌≡◌, ap, ◌∙◌, sym}
+use Rattle.std.proofs.Common.{◌∙◌, sym}
 use Rattle.ps_book.specs.Counts.{claims_of}
 use Rattle.ps_views.proofs.PinnedLaws.{pinned_one, pinned_before, pinned_behind}
 use Rattle.ps_book.specs.Services.{fields_of}

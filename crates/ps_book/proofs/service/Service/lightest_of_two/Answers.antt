@@ -1,4 +1,4 @@
-use Rattle.std.proofs.Common.{◌≡◌, ap, ◌∙◌, ◌&&◌}
+use Rattle.std.proofs.Common.{ap, ◌∙◌, ◌&&◌}
 use Rattle.ps_versions.specs.Choices.{lightest, lighter_of, open_at}
 use Rattle.ps_versions.specs.Questions.{is_settled}
 use Rattle.ps_views.specs.Fields.{held_at, passed}

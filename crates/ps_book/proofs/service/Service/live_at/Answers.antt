@@ -1,4 +1,4 @@
-use Rattle.std.proofs.Common.{◌≡◌, sym, ◌∙◌}
+use Rattle.std.proofs.Common.{sym, ◌∙◌}
 use Rattle.ps_book.specs.Services.{fields_of}
 use Rattle.ps_views.proofs.Replies.{lives_at, refuses_no_circuit, refuses_no_version, refuses_retired}
 use Rattle.ps_book.proofs.service.Service.live_at.Goals as goal

@@ -1,5 +1,5 @@
 use Rattle.std.proofs.Common.{◌≡◌, sym, subst}
-use Rattle.ps_journal.specs.State.{State, unclaimed}
+use Rattle.ps_journal.specs.State.{unclaimed}
 use Rattle.ps_views.specs.Stands.{Stands, Leaves}
 use Rattle.ps_book.specs.Wanting.{NextsOr}
 use Rattle.std.specs.Prelude.{Some}

@@ -1,4 +1,4 @@
-use Rattle.std.proofs.Common.{◌≡◌, ◌<◌, length, sym, ap, ◌∙◌, arith}
+use Rattle.std.proofs.Common.{arith}
 use Rattle.ps_book.proofs.Giving.{record_within}
 use Rattle.ps_book.proofs.service.Service.record_of.Goals as goal
 

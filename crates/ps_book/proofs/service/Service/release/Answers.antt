@@ -1,6 +1,3 @@
-use Rattle.std.proofs.Common.{◌≡◌, ap, ◌∙◌, sym, refl}
-use Rattle.std.specs.Prelude.{Some, None}
-use Rattle.ps_views.specs.Fields.{pin_at}
 use Rattle.ps_book.specs.Services.{fields_of}
 use Rattle.ps_book.proofs.Releasing.{pin_read, releases_none, carries_pin, releases_pin, released_pin_sound, releases_stands}
 use Rattle.ps_book.proofs.service.Service.release.Goals as goal

@@ -1,5 +1,4 @@
-use Rattle.std.proofs.Common.{◌≡◌, sym, subst, refl}
-use Rattle.ps_journal.specs.Summing as summing
+use Rattle.std.proofs.Common.{sym, subst, refl}
 use Rattle.ps_journal.specs.Summing.{GivesUp}
 use Rattle.ps_book.specs.Conclusions.{ConcludesSum}
 use Rattle.ps_book.specs.Services.{fields_of}

@@ -1,4 +1,4 @@
-use Rattle.std.proofs.Common.{◌≡◌, sym, subst}
+use Rattle.std.proofs.Common.{sym, subst}
 use Rattle.std.specs.Prelude.{Some, None}
 use Rattle.ps_journal.specs.Claiming.{SecondComesTo}
 use Rattle.ps_journal.specs.Summing.{ComesToAt}

@@ -1,4 +1,4 @@
-use Rattle.std.proofs.Common.{◌≡◌, ◌≤◌, take, ap, ◌∙◌, arith}
+use Rattle.std.proofs.Common.{◌≡◌, take, ap, ◌∙◌, arith}
 use Rattle.std.specs.Prelude.{Some, count_by}
 use Rattle.ps_journal.specs.Claiming.{claims_node}
 use Rattle.ps_book.proofs.tasks.ClaimsWeights.weight.Goals as goal
