@@ -82,7 +82,8 @@ module _ (f : Fields) (sound : IsSound f) (p : Place) (k : KeptAt f p) (r : Reco
           λ h. test.1 (by v.tree tree_is items h.items),
         )
       where
-        by : (o : Option (Tree Item)) → o ≡ None → v.items ≡ [] → (r.items.value ≡ v.items) ⊎ ((is_passed r ≡ true) × ((s : Tree Item) × (Contains (segments_of o) s × (r.items.value ≡ run s)))) → r.items.value ≡ []
+        by : (o : Option (Tree Item)) → o ≡ None → v.items ≡ [] → (r.items.value ≡ v.items) ⊎ ((is_passed
+            r ≡ true) × ((s : Tree Item) × (Contains (segments_of o) s × (r.items.value ≡ run s)))) → r.items.value ≡ []
         by o e items (inl h) = h ∙ items
         by None e items (inr (q, (s, (within, h)))) = absurd (omega (arith, within.1))
         by (Some x) e items (inr h) = cc
@@ -96,14 +97,23 @@ module _ (f : Fields) (sound : IsSound f) (p : Place) (k : KeptAt f p) (r : Reco
       items_are = ap (λ o. run_maybe (tree_of f.items f.versions.nodes o)) root_is ∙ run-mapped (item_at f.items) (tree f.versions.nodes root)
 
       segments_are : segments_of (version_of f.items f.versions.nodes k.version).tree ≡ map (mapped (item_at f.items)) (segments (tree f.versions.nodes root))
-      segments_are = segments_of_mapped (item_at f.items) (root_tree f.versions.nodes k.version.root) ∙ ap (λ o. map (mapped (item_at f.items)) (segments_maybe (root_tree f.versions.nodes o))) root_is
+      segments_are = segments_of_mapped (item_at f.items) (root_tree f.versions.nodes k.version.root)
+          ∙ ap (λ o. map (mapped (item_at f.items)) (segments_maybe (root_tree f.versions.nodes o))) root_is
 
-      has_segment : HasRun f.items (tree f.versions.nodes root) r.items.value → (s : Tree Item) × (Contains (segments_of (version_of f.items f.versions.nodes k.version).tree) s × (r.items.value ≡ run s))
+      has_segment : HasRun f.items (tree f.versions.nodes root) r.items.value
+          → (s : Tree Item) × (Contains (segments_of (version_of f.items f.versions.nodes k.version).tree) s × (r.items.value ≡ run s))
       has_segment h =
-          let within = map_contains (mapped (item_at f.items)) (segments (tree f.versions.nodes root)) h.segment h.within in
-          (mapped (item_at f.items) h.segment, (subst (λ ss. Contains ss (mapped (item_at f.items) h.segment)) (sym segments_are) within, h.same ∙ sym (run-mapped (item_at f.items) h.segment)))
+          let within = map_contains (mapped (item_at f.items)) (segments (tree f.versions.nodes root)) h.segment h.within in (
+            mapped (item_at f.items) h.segment,
+            (
+              subst (λ ss. Contains ss (mapped (item_at f.items) h.segment)) (sym segments_are) within,
+              h.same
+                  ∙ sym (run-mapped (item_at f.items) h.segment),
+            ),
+          )
 
-      segment_has : (s : Tree Item) → Contains (segments_of (version_of f.items f.versions.nodes k.version).tree) s → r.items.value ≡ run s → HasRun f.items (tree f.versions.nodes root) r.items.value
+      segment_has : (s : Tree Item) → Contains (segments_of (version_of f.items f.versions.nodes k.version).tree) s → r.items.value ≡ run s
+          → HasRun f.items (tree f.versions.nodes root) r.items.value
       segment_has s within e =
           let x = contains_map (mapped (item_at f.items)) (segments (tree f.versions.nodes root)) s (subst (λ ss. Contains ss s) segments_are within) in
           record { segment = x.item; within = x.within; same = e ∙ ap run (sym x.same) ∙ run-mapped (item_at f.items) x.item }
@@ -117,10 +127,15 @@ module _ (f : Fields) (sound : IsSound f) (p : Place) (k : KeptAt f p) (r : Reco
         pub part_belongs : (c : Bool) → b ≡ true → IsTrue c ↔ HasRun f.items (tree f.versions.nodes root) r.items.value → TellsOne f p r c
         part_belongs c on some t d v so found =
             let s = seen_at f sound p k t so d v found in
-            subst (λ w. IsTrue c ↔ Belongs d w r) (sym s.1) (λ e. record { qubits = width ∙ sym s.0; items = inr (sym over ∙ on, has_segment (some.0 e)) }, λ h. by h.items)
+            subst (λ w. IsTrue c ↔ Belongs d w r) (sym s.1) (
+              λ e. record
+                  { qubits = width ∙ sym s.0; items = inr (sym over ∙ on, has_segment (some.0 e)) },
+              λ h. by h.items,
+            )
           where
             by : (r.items.value ≡ (version_of f.items f.versions.nodes k.version).items)
-                ⊎ ((is_passed r ≡ true) × ((s : Tree Item) × (Contains (segments_of (version_of f.items f.versions.nodes k.version).tree) s × (r.items.value ≡ run s)))) → c ≡ true
+                ⊎ ((is_passed r ≡ true) × ((s : Tree Item) × (Contains (segments_of (version_of f.items f.versions.nodes k.version).tree)
+                s × (r.items.value ≡ run s)))) → c ≡ true
             by (inl e) = absurd (off a other (whole.1 (e ∙ items_are)))
             by (inr (q, (s, (within, e)))) = some.1 (segment_has s within e)
 
@@ -130,13 +145,15 @@ module _ (f : Fields) (sound : IsSound f) (p : Place) (k : KeptAt f p) (r : Reco
             subst (λ w. IsTrue b ↔ Belongs d w r) (sym s.1) (λ e. absurd (off b none e), λ h. by h.items)
           where
             by : (r.items.value ≡ (version_of f.items f.versions.nodes k.version).items)
-                ⊎ ((is_passed r ≡ true) × ((s : Tree Item) × (Contains (segments_of (version_of f.items f.versions.nodes k.version).tree) s × (r.items.value ≡ run s)))) → b ≡ true
+                ⊎ ((is_passed r ≡ true) × ((s : Tree Item) × (Contains (segments_of (version_of f.items f.versions.nodes k.version).tree)
+                s × (r.items.value ≡ run s)))) → b ≡ true
             by (inl e) = absurd (off a other (whole.1 (e ∙ items_are)))
             by (inr (q, (s, (within, e)))) = over ∙ q
 
 -- ---- both records
 -- each record belongs to the version in its place
-pub both_belong : (f : Fields) (pin : Pin) (q : Place) (j : Judged) (a b : Bool) → pin.second ≡ Some q → TellsOne f pin.first j.first.value a → TellsOne f q j.second.value b → TellsPair f pin j (a && b)
+pub both_belong : (f : Fields) (pin : Pin) (q : Place) (j : Judged) (a b : Bool) → pin.second ≡ Some q → TellsOne f pin.first j.first.value a
+    → TellsOne f q j.second.value b → TellsPair f pin j (a && b)
 both_belong f pin q j a b second one two t other c d v w so is first_found other_found =
     let same : q ≡ other = place q other (sym second ∙ is) in
     let x = one t c v so first_found in

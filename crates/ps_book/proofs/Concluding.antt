@@ -79,7 +79,8 @@ module _ (f : Fields) (sound : IsSound f) (pin : Pin) (has : HasPinned f pin) wh
       }
 
   module _ (j : Arc AJudged Global) (proof : Bool) where
-    other_run : TellsPair f pin j.value false → (t : State) (i seat : ℕ) → Stands f t → pin_of t seat ≡ Some pin → Answers t i seat (Judged j proof) OtherRun (unpinned i seat t)
+    other_run : TellsPair f pin j.value false → (t : State) (i seat : ℕ) → Stands f t → pin_of t seat ≡ Some pin
+        → Answers t i seat (Judged j proof) OtherRun (unpinned i seat t)
     other_run tells t i seat so is = by pin.second refl
       where
         by : (o : Option Place) → pin.second ≡ o → Answers t i seat (Judged j proof) OtherRun (unpinned i seat t)

@@ -44,24 +44,37 @@ use Rattle.std.proofs.lemmas.List.{take_all}
 -- ---- what is answered, once the old claim has ended
 module _ (f : Fields) (t : State) (i seat : ℕ) (sound : IsSound f) (so : Stands f (unclaimed seat t)) where
   pub idle_leaves : (r : Reply) → r ≡ Idle → all_settled passed f.versions ≡ true → Leaves (λ new. NextsOr t i seat false r new) f
-  idle_leaves r e s = record { state = unclaimed seat t; does_so = inl (subst (λ x. Nexts t i seat false x (unclaimed seat t)) (sym e) (idle_nexts f t i seat sound so s)); stands = so }
+  idle_leaves r e s = record {
+    state = unclaimed seat t;
+    does_so = inl
+        (subst (λ x. Nexts t i seat false x (unclaimed seat t)) (sym e) (idle_nexts f t i seat sound so s));
+    stands = so;
+  }
 
   pin_told : pin_of t seat ≡ pin_at f seat
   pin_told = ap (λ ps. slice_index_or ps seat None) so.pins
 
   pub no_pin_leaves : (r : Reply) → r ≡ NoPin → pin_at f seat ≡ None → Leaves (λ new. NextsOr t i seat true r new) f
-  no_pin_leaves r e none = record { state = unclaimed seat t; does_so = inl (subst (λ x. Nexts t i seat true x (unclaimed seat t)) (sym e) (no_pin (pin_told ∙ none))); stands = so }
+  no_pin_leaves r e none = record {
+    state = unclaimed seat t;
+    does_so = inl
+        (subst (λ x. Nexts t i seat true x (unclaimed seat t)) (sym e) (no_pin (pin_told ∙ none)));
+    stands = so;
+  }
 
-  pub settled_leaves : (pin : Pin) (r : Reply) → pin_at f seat ≡ Some pin → AreSettledAt f pin → SettlesIn f pin r → Leaves (λ new. NextsOr t i seat true r new) f
+  pub settled_leaves : (pin : Pin) (r : Reply) → pin_at f seat ≡ Some pin → AreSettledAt f pin → SettlesIn f pin r
+      → Leaves (λ new. NextsOr t i seat true r new) f
   settled_leaves pin r e s (inl h) = record {
     state = unclaimed seat t;
     does_so = inl (subst (λ x. Nexts t i seat true x (unclaimed seat t)) (sym h.reply)
-        (settled_nexts f t i seat sound so pin h.first h.second (has_pinned f seat pin sound e) s (pin_told ∙ e) (h.first_comes (unclaimed seat t) so) (h.second_comes (unclaimed seat t) so)));
+        (settled_nexts f t i seat sound so pin h.first h.second (has_pinned f seat pin sound e) s (pin_told ∙ e) (h.first_comes (unclaimed seat t) so)
+        (h.second_comes (unclaimed seat t) so)));
     stands = so;
   }
   settled_leaves pin r e s (inr m) = record { state = unclaimed seat t; does_so = inr (record { reply = m; state = refl }); stands = so }
 
-  gives_leaves : (pinned : Bool) (ss : List Standing) (r : Ready) (told : Reply) (g : Fields) → LooksAt t seat pinned ss → Picks f (unclaimed seat t) ss r → Gives f i seat r told g
+  gives_leaves : (pinned : Bool) (ss : List Standing) (r : Ready) (told : Reply) (g : Fields) → LooksAt t seat pinned ss
+      → Picks f (unclaimed seat t) ss r → Gives f i seat r told g
       → Leaves (λ new. NextsOr t i seat pinned told new) g
   gives_leaves pinned ss r told g looks p (given {task = task} h e) = record {
     state = claimed i seat r.place r.node t;
@@ -75,15 +88,18 @@ module _ (f : Fields) (t : State) (i seat : ℕ) (sound : IsSound f) (so : Stand
   }
 
   -- of all versions that are kept
-  pub given_leaves : (r : Ready) (told : Reply) (g : Fields) → lightest (weight_by f.claims) (open_segments passed f.versions) ≡ Some r → Gives f i seat r told g
+  pub given_leaves : (r : Ready) (told : Reply) (g : Fields) → lightest (weight_by f.claims) (open_segments passed f.versions) ≡ Some r
+      → Gives f i seat r told g
       → Leaves (λ new. NextsOr t i seat false told new) g
   given_leaves r told g e h = gives_leaves false (kept_versions t) r told g all (picks_kept f (unclaimed seat t) sound so r e) h
 
   -- of those that the seat has pinned
-  pub given_pinned_leaves : (pin : Pin) (r : Ready) (told : Reply) (g : Fields) → pin_at f seat ≡ Some pin → lightest (weight_by f.claims) (open_pinned f.versions pin) ≡ Some r → Gives f i seat r told g
+  pub given_pinned_leaves : (pin : Pin) (r : Ready) (told : Reply) (g : Fields) → pin_at f seat ≡ Some pin
+      → lightest (weight_by f.claims) (open_pinned f.versions pin) ≡ Some r → Gives f i seat r told g
       → Leaves (λ new. NextsOr t i seat true told new) g
   given_pinned_leaves pin r told g p e h =
-      gives_leaves true (pinned_versions t pin) r told g (own (pin_told ∙ p)) (picks_pinned f (unclaimed seat t) sound so pin (has_pinned f seat pin sound p) r e) h
+      gives_leaves true (pinned_versions t pin) r told g (own (pin_told ∙ p))
+      (picks_pinned f (unclaimed seat t) sound so pin (has_pinned f seat pin sound p) r e) h
 
 -- ---- which segments are ready
 module _ (f : Fields) (sound : IsSound f) (w : ℕ → ℕ) where
@@ -97,13 +113,15 @@ module _ (f : Fields) (sound : IsSound f) (w : ℕ → ℕ) where
   ready_one p k None e = tt
   ready_one p k (Some r) e = ready_at p k r (sym e)
 
-  pub ready_two : (p q : Place) → KeptAt f p → KeptAt f q → (o : Option Ready) → o ≡ lighter_of w (lightest w (open_at passed f.versions p)) (lightest w (open_at passed f.versions q)) → IfSome o (IsReadyAt f)
+  pub ready_two : (p q : Place) → KeptAt f p → KeptAt f q → (o : Option Ready)
+      → o ≡ lighter_of w (lightest w (open_at passed f.versions p)) (lightest w (open_at passed f.versions q)) → IfSome o (IsReadyAt f)
   ready_two p q k l None e = tt
   ready_two p q k l (Some r) e =
       lighter_all w (IsReadyAt f) (lightest w (open_at passed f.versions p)) (lightest w (open_at passed f.versions q)) r (ready_at p k) (ready_at q l) (sym e)
 
 module _ (f : Fields) (pin : Pin) where
-  pub settled_one : (o : Option Ready) → pin.second ≡ None → is_none o ≡ is_settled passed f.versions (held_at f.versions pin.first) → o ≡ None → AreSettledAt f pin
+  pub settled_one : (o : Option Ready) → pin.second ≡ None → is_none o ≡ is_settled passed f.versions (held_at f.versions pin.first) → o ≡ None
+      → AreSettledAt f pin
   settled_one o none s e = record { first = sym s ∙ ap is_none e; second = λ p h. absurd (no p (sym none ∙ h)) }
     where
       no : (p : Place) → None ≡ Some p → ⊥
@@ -114,16 +132,22 @@ module _ (f : Fields) (pin : Pin) where
   both false b e = cc
 
   -- the second version is looked at behind the first, or before it
-  pub settled_behind : (q : Place) (o : Option Ready) → pin.second ≡ Some q → is_none o ≡ (is_settled passed f.versions (held_at f.versions pin.first) && is_settled passed f.versions (held_at f.versions q)) → o ≡ None → AreSettledAt f pin
+  pub settled_behind : (q : Place) (o : Option Ready) → pin.second ≡ Some q
+      → is_none o ≡ (is_settled passed f.versions (held_at f.versions pin.first) && is_settled passed f.versions (held_at f.versions q)) → o ≡ None
+      → AreSettledAt f pin
   settled_behind q o second s e =
-      let parts = both (is_settled passed f.versions (held_at f.versions pin.first)) (is_settled passed f.versions (held_at f.versions q)) (sym s ∙ ap is_none e) in
+      let parts = both (is_settled passed f.versions (held_at f.versions pin.first)) (is_settled passed f.versions (held_at f.versions q))
+      (sym s ∙ ap is_none e) in
       record { first = parts.0; second = λ p h. subst (λ x. is_settled passed f.versions (held_at f.versions x) ≡ true) (same p (sym second ∙ h)) parts.1 }
     where
       same : (p : Place) → Some q ≡ Some p → q ≡ p
       same p e = cc
 
-  pub settled_before : (q : Place) (o : Option Ready) → pin.second ≡ Some q → is_none o ≡ (is_settled passed f.versions (held_at f.versions q) && is_settled passed f.versions (held_at f.versions pin.first)) → o ≡ None → AreSettledAt f pin
-  settled_before q o second s e = settled_behind q o second (s ∙ swap (is_settled passed f.versions (held_at f.versions q)) (is_settled passed f.versions (held_at f.versions pin.first))) e
+  pub settled_before : (q : Place) (o : Option Ready) → pin.second ≡ Some q
+      → is_none o ≡ (is_settled passed f.versions (held_at f.versions q) && is_settled passed f.versions (held_at f.versions pin.first)) → o ≡ None
+      → AreSettledAt f pin
+  settled_before q o second s e = settled_behind q o second (s ∙ swap (is_settled passed f.versions (held_at f.versions q))
+      (is_settled passed f.versions (held_at f.versions pin.first))) e
     where
       swap : (a b : Bool) → (a && b) ≡ (b && a)
       swap true true = refl
@@ -158,14 +182,16 @@ record_within (x ∷ xs) (suc k) h = omega (arith, record_within xs k h)
 
 -- ---- the work at a segment
 module _ (f : Fields) where
-  pub leaf_work : (k : ℕ) (numbers : List ℕ) (a : Arc (List Item) Global) → tree f.versions.nodes k ≡ leaf (Some k) numbers → a.value ≡ run_at f.items f.versions.nodes k → IsWorkAt f (tree f.versions.nodes k) (Items a)
+  pub leaf_work : (k : ℕ) (numbers : List ℕ) (a : Arc (List Item) Global) → tree f.versions.nodes k ≡ leaf (Some k) numbers
+      → a.value ≡ run_at f.items f.versions.nodes k → IsWorkAt f (tree f.versions.nodes k) (Items a)
   leaf_work k numbers a e h = subst (λ s. IsWorkAt f s (Items a)) (sym e) (h ∙ ap (λ s. run_of_leaf f.items (run s)) e)
 
   sum_some : (o : Option (ℕ × Filed)) → is_sum passed o ≡ true → IsSome o
   sum_some None e = cc
   sum_some (Some r) e = refl
 
-  side_some : (k : ℕ) → name_of (tree f.versions.nodes k) ≡ Some k → has_sum f.versions.kept passed (tree f.versions.nodes k) ≡ true → IsSome (record_at f.versions.kept k)
+  side_some : (k : ℕ) → name_of (tree f.versions.nodes k) ≡ Some k → has_sum f.versions.kept passed (tree f.versions.nodes k) ≡ true
+      → IsSome (record_at f.versions.kept k)
   side_some k named e = sum_some (record_at f.versions.kept k) (ap (λ n. is_sum passed (kept_by f.versions.kept n)) (sym named) ∙ e)
 
   -- a branch and its two sides
@@ -180,7 +206,8 @@ module _ (f : Fields) where
   module _ (k left right : ℕ) (b : IsBranch k left right) (ready : is_ready f.versions.kept passed (tree f.versions.nodes k) ≡ true) where
     sides : (has_sum f.versions.kept passed (tree f.versions.nodes left) ≡ true) × (has_sum f.versions.kept passed (tree f.versions.nodes right) ≡ true)
     sides = parts (lacks f.versions.kept (branch (Some k) (tree f.versions.nodes left) (tree f.versions.nodes right)))
-        (has_sum f.versions.kept passed (tree f.versions.nodes left)) (has_sum f.versions.kept passed (tree f.versions.nodes right)) (ap (is_ready f.versions.kept passed) (sym b.same) ∙ ready)
+        (has_sum f.versions.kept passed (tree f.versions.nodes left)) (has_sum f.versions.kept passed (tree f.versions.nodes right))
+        (ap (is_ready f.versions.kept passed) (sym b.same) ∙ ready)
       where
         parts : (a b c : Bool) → (a && (b && c)) ≡ true → (b ≡ true) × (c ≡ true)
         parts true true c e = (refl, e)
@@ -193,7 +220,8 @@ module _ (f : Fields) where
     pub right_some : IsSome (record_at f.versions.kept right)
     right_some = side_some right b.right_named sides.1
 
-    filed_at : (n : ℕ) → name_of (tree f.versions.nodes n) ≡ Some n → IsSome (record_at f.versions.kept n) → (r : Record) → ((e : ℕ × Filed) → record_at f.versions.kept n ≡ Some e → r ≡ e.1.shared.value)
+    filed_at : (n : ℕ) → name_of (tree f.versions.nodes n) ≡ Some n → IsSome (record_at f.versions.kept n) → (r : Record)
+        → ((e : ℕ × Filed) → record_at f.versions.kept n ≡ Some e → r ≡ e.1.shared.value)
         → IsFiledAt f (tree f.versions.nodes n) r
     filed_at n named there r h = by (record_at f.versions.kept n) refl there
       where
@@ -203,7 +231,8 @@ module _ (f : Fields) where
 
     pub branch_work : (x y : Arc Record Global) → ((e : ℕ × Filed) → record_at f.versions.kept left ≡ Some e → x.value ≡ e.1.shared.value)
         → ((e : ℕ × Filed) → record_at f.versions.kept right ≡ Some e → y.value ≡ e.1.shared.value) → IsWorkAt f (tree f.versions.nodes k) (Children x y)
-    branch_work x y g h = subst (λ s. IsWorkAt f s (Children x y)) (sym b.same) (filed_at left b.left_named left_some x.value g, filed_at right b.right_named right_some y.value h)
+    branch_work x y g h = subst (λ s. IsWorkAt f s (Children x y)) (sym b.same)
+        (filed_at left b.left_named left_some x.value g, filed_at right b.right_named right_some y.value h)
 
 -- the weights that claims give are those of all seats
 pub claims_weigh : (c : Claims) → length c.seats ≡ 64 → claims_of c ≡ weight_by c.seats

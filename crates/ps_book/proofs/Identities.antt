@@ -23,7 +23,8 @@ no_prims items e = ap run_of e
 pub identity_fills : (n : ℕ) (S0 S : PathSum) (ms : List Move) → IsIdentityOf n S0 → S ≡ S0 → ms ≡ Id ∷ [] → Fills n [] (kept S ms)
 identity_fills n S0 S ms i e m = subst (λ q. Fills n [] (kept S q)) (sym m) (subst (λ R. Fills n [] (kept R (Id ∷ []))) (sym e) (no_prim i))
 
-module _ (n : ℕ) (S0 : PathSum) (s : Arc PathSum Global) (ms : List Move) (items : List (List Prim)) (i : IsIdentityOf n S0) (e : s.value ≡ S0) (m : ms ≡ Id ∷ []) (none : items ≡ []) where
+module _ (n : ℕ) (S0 : PathSum) (s : Arc PathSum Global) (ms : List Move) (items : List (List Prim)) (i : IsIdentityOf n S0) (e : s.value ≡ S0)
+    (m : ms ≡ Id ∷ []) (none : items ≡ []) where
   right : IsRight n [] ms (Sum s)
   right = fills_right [] (identity_fills n S0 s.value ms i e m)
 

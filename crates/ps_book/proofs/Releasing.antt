@@ -44,18 +44,22 @@ module _ (entry seat : ℕ) (f : Fields) (sound : IsSound f) (near : seat < 64) 
     pub carries_pin : Carries f.versions (Some pin)
     carries_pin = subst (Carries f.versions) e (carries seat f sound near)
 
-    pub fades_pin : (new : Held Filed) → Becomes (λ q x y. Fades entry (pins_by q (Some pin)) x y) f.versions new → Becomes (λ q x y. Fades entry (pins_by q (pin_at f seat)) x y) f.versions new
+    pub fades_pin : (new : Held Filed) → Becomes (λ q x y. Fades entry (pins_by q (Some pin)) x y) f.versions new
+        → Becomes (λ q x y. Fades entry (pins_by q (pin_at f seat)) x y) f.versions new
     fades_pin new b = subst (λ o. Becomes (λ q x y. Fades entry (pins_by q o) x y) f.versions new) (sym e) b
 
-    pub releases_pin : (new : Held Filed) → Becomes (λ q x y. Fades entry (pins_by q (Some pin)) x y) f.versions new → Releases entry seat f (record f { versions = new; pins = slice_set f.pins seat None })
+    pub releases_pin : (new : Held Filed) → Becomes (λ q x y. Fades entry (pins_by q (Some pin)) x y) f.versions new
+        → Releases entry seat f (record f { versions = new; pins = slice_set f.pins seat None })
     releases_pin new b = record { fades = fades_pin new b; same = refl }
 
-    pub released_pin_sound : (new : Held Filed) → Becomes (λ q x y. Fades entry (pins_by q (Some pin)) x y) f.versions new → IsSound (record f { versions = new; pins = slice_set f.pins seat None })
+    pub released_pin_sound : (new : Held Filed) → Becomes (λ q x y. Fades entry (pins_by q (Some pin)) x y) f.versions new
+        → IsSound (record f { versions = new; pins = slice_set f.pins seat None })
     released_pin_sound new b = release_sound entry seat f sound near new (slice_set f.pins seat None) (fades_pin new b) refl
 
   module _ (g : Fields) (r : Releases entry seat f g) where
     pub releases_stands : (t : State) → Stands f t → Stands g (unpinned entry seat t)
-    releases_stands t s = subst (λ h. Stands h (unpinned entry seat t)) (sym r.same) (release_stands entry seat f sound near g.versions (slice_set f.pins seat None) r.fades refl t s)
+    releases_stands t s = subst (λ h. Stands h (unpinned entry seat t)) (sym r.same)
+        (release_stands entry seat f sound near g.versions (slice_set f.pins seat None) r.fades refl t s)
 
     pub releases_room : HasRoom g.versions
     releases_room = room_left entry f.versions g.versions (pin_at f seat) (carries seat f sound near) r.fades
@@ -80,6 +84,8 @@ module _ (entry seat : ℕ) (f : Fields) (sound : IsSound f) (near : seat < 64) 
       held_sound = subst IsSound (sym same)
           (hold_sound entry seat f sound near new (slice_set (slice_set f.pins seat None) seat (Some (new_pin first second))) first second live also holds refl)
 
-      pub held_stands : (t : State) → Stands f t → Stands (record g { versions = new; pins = slice_set g.pins seat (Some (new_pin first second)) }) (pinning.pinned entry seat first second t)
+      pub held_stands : (t : State) → Stands f t → Stands (record g { versions = new; pins = slice_set g.pins seat (Some (new_pin first second)) })
+          (pinning.pinned entry seat first second t)
       held_stands t s = subst (λ h. Stands h (pinning.pinned entry seat first second t)) (sym same)
-          (hold_stands entry seat f sound near new (slice_set (slice_set f.pins seat None) seat (Some (new_pin first second))) first second live also holds refl t s)
+          (hold_stands entry seat f sound near new (slice_set (slice_set f.pins seat None) seat (Some (new_pin first second))) first second live also
+          holds refl t s)

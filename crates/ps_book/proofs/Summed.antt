@@ -87,14 +87,16 @@ module _ (f : Fields) (sound : IsSound f) (p : Place) (k : KeptAt f p) where
         let s = finds_same t p c (circuit_of f.items f.versions.nodes x.0 k.circuit) v (version_of f.items f.versions.nodes k.version) h x.1 in
         (ap (λ (d : Circuit). d.qubits) s.0, s.1)
 
-    settled_is : model.is_settled t.published (version_of f.items f.versions.nodes k.version).tree ≡ questions.is_settled passed f.versions (held_at f.versions p)
+    settled_is : model.is_settled t.published (version_of f.items f.versions.nodes k.version).tree ≡ questions.is_settled passed f.versions
+        (held_at f.versions p)
     settled_is =
         let s = stood in
         settled_kept f t sound so s.index s.number s.circuit k.version s.at s.there k.kept
         ∙ ap (λ o. settled_in f.versions.kept passed (root_tree f.versions.nodes (root_of o))) (sym k.version_is)
 
   -- ---- where there is no item
-  pub comes_to_identity : (n : ℕ) (r : Record) → root_of (held_at f.versions p) ≡ None → n ≡ k.circuit.qubits → IsIdentity n r → (t : State) → Stands f t → ComesToAt t p r
+  pub comes_to_identity : (n : ℕ) (r : Record) → root_of (held_at f.versions p) ≡ None → n ≡ k.circuit.qubits → IsIdentity n r → (t : State)
+      → Stands f t → ComesToAt t p r
   comes_to_identity n r none e h t so =
       comes t so r (λ c q. comes_to_nothing f t c k.version r (root_is None none) (subst (λ m. IsIdentity m r) (e ∙ sym q) h))
 
@@ -109,7 +111,8 @@ module _ (f : Fields) (sound : IsSound f) (p : Place) (k : KeptAt f p) where
     settled_here : settled_in f.versions.kept passed (root_tree f.versions.nodes k.version.root) ≡ true
     settled_here = ap (λ o. settled_in f.versions.kept passed (root_tree f.versions.nodes (root_of o))) (sym k.version_is) ∙ settled
 
-    first_is : (o : Option ℕ) → o ≡ questions.first_passed passed f.versions (held_at f.versions p) → first_named (has_passed f.versions.kept passed) (segments_maybe (root_tree f.versions.nodes k.version.root)) ≡ o
+    first_is : (o : Option ℕ) → o ≡ questions.first_passed passed f.versions (held_at f.versions p)
+        → first_named (has_passed f.versions.kept passed) (segments_maybe (root_tree f.versions.nodes k.version.root)) ≡ o
     first_is o e = ap (λ v. questions.first_passed passed f.versions v) (sym k.version_is) ∙ sym e
 
     -- the root's sum
@@ -119,13 +122,16 @@ module _ (f : Fields) (sound : IsSound f) (p : Place) (k : KeptAt f p) where
         let s = tree f.versions.nodes root in
         let here : k.version.root ≡ Some root = root_is (Some root) at in
         let no_any : list_any (has_passed kept passed) (segments s) ≡ false =
-        sym (any_first kept passed (segments s)) ∙ ap is_some (ap (λ r. first_named (has_passed kept passed) (segments_maybe (root_tree f.versions.nodes r))) (sym here) ∙ first_is None none) in
-        let sum : has_sum kept passed s ≡ true = or_first (has_sum kept passed s) (list_any (has_passed kept passed) (segments s)) (ap (λ r. settled_in kept passed (root_tree f.versions.nodes r)) (sym here) ∙ settled_here) no_any in
+        sym (any_first kept passed (segments s)) ∙ ap is_some (ap (λ r. first_named (has_passed kept passed)
+        (segments_maybe (root_tree f.versions.nodes r))) (sym here) ∙ first_is None none) in
+        let sum : has_sum kept passed s ≡ true = or_first (has_sum kept passed s) (list_any (has_passed kept passed) (segments s))
+        (ap (λ r. settled_in kept passed (root_tree f.versions.nodes r)) (sym here) ∙ settled_here) no_any in
         let e = sum_some (record_at kept root) (ap (λ n. is_sum passed (kept_by kept n)) (sym named) ∙ sum) in
         record {
           entry = e.0;
           kept = e.1;
-          comes = λ t so. comes t so e.0.1.shared.value (λ c q. comes_to_root f t c k.version root e.0 here (known t so) settled_here (first_is None none) named e.1);
+          comes = λ t so. comes t so e.0.1.shared.value (λ c q. comes_to_root f t c k.version root e.0 here (known t so) settled_here
+              (first_is None none) named e.1);
         }
 
     -- the first limit
@@ -136,15 +142,18 @@ module _ (f : Fields) (sound : IsSound f) (p : Place) (k : KeptAt f p) where
         record {
           entry = e.0;
           kept = e.1;
-          comes = λ t so. comes t so e.0.1.shared.value (λ c q. comes_to_limit f t c k.version root m e.0 (root_is (Some root) at) (known t so) (first_is (Some m) some) named below e.1);
+          comes = λ t so. comes t so e.0.1.shared.value (λ c q. comes_to_limit f t c k.version root m e.0 (root_is (Some root) at) (known t so)
+              (first_is (Some m) some) named below e.1);
         }
 
   -- ---- how a question ends
-  pub done_unsettled : (m : ℕ) (r : Reply) → r ≡ Unsettled m → questions.is_settled passed f.versions (held_at f.versions p) ≡ false → Some m ≡ questions.missing f.versions (held_at f.versions p) → ConcludesDone f p r
+  pub done_unsettled : (m : ℕ) (r : Reply) → r ≡ Unsettled m → questions.is_settled passed f.versions (held_at f.versions p) ≡ false
+      → Some m ≡ questions.missing f.versions (held_at f.versions p) → ConcludesDone f p r
   done_unsettled m r is off told pin first t i seat so pinned =
       let x = finds_at f t so sound.tabled p k.circuit k.version k.circuit_is k.version_is in
       let v = version_of f.items f.versions.nodes k.version in
-      let found : Finds t pin.first (circuit_of f.items f.versions.nodes x.0 k.circuit) v = subst (λ q. Finds t q (circuit_of f.items f.versions.nodes x.0 k.circuit) v) (sym first) x.1 in
+      let found : Finds t pin.first (circuit_of f.items f.versions.nodes x.0 k.circuit) v = subst
+      (λ q. Finds t q (circuit_of f.items f.versions.nodes x.0 k.circuit) v) (sym first) x.1 in
       let number : m ≡ model.missing t.published v.tree = missing_told f t sound so p k.version m k.version_is k.kept told in
       inl (subst (λ y. Sums t i seat Done y (unpinned i seat t)) (ap Unsettled (sym number) ∙ sym is) (summing.unsettled pinned found (settled_is t so ∙ off)))
 

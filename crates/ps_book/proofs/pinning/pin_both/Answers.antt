@@ -14,7 +14,8 @@ returns-in-None c =
     let h = c.args.versions.now in
     let p = c.args.first.now in
     subst (λ o. Becomes (λ q x y. Rises (pins_by q (Some (new_pin p o))) x y) h c.pin.new.self) (sym c.in-None.is)
-    (rises_alone h p c.requires.room c.requires.live c.pin.new.self (rises_first h p c.requires.room c.requires.live c.pin.new.self c.pin.ensures.circuits c.pin.ensures.nodes c.pin.ensures.kept))
+    (rises_alone h p c.requires.room c.requires.live c.pin.new.self (rises_first h p c.requires.room c.requires.live c.pin.new.self
+    c.pin.ensures.circuits c.pin.ensures.nodes c.pin.ensures.kept))
 
 pub pin-requires-in-Some-clause-live : goal.pin-requires-in-Some-clause-live
 pin-requires-in-Some-clause-live c =

@@ -8,13 +8,15 @@ pub returns-in-None : goal.returns-in-None
 returns-in-None c =
     let h = c.args.versions.now in
     let pin = c.args.pin.now in
-    fades_alone c.args.number h pin c.requires c.unpin.new.self c.in-None.is (fades_first c.args.number h pin c.requires c.unpin.new.self c.unpin.ensures.circuits c.unpin.ensures.nodes c.unpin.ensures.kept)
+    fades_alone c.args.number h pin c.requires c.unpin.new.self c.in-None.is
+    (fades_first c.args.number h pin c.requires c.unpin.new.self c.unpin.ensures.circuits c.unpin.ensures.nodes c.unpin.ensures.kept)
 
 pub unpin-requires-in-Some : goal.unpin-requires-in-Some
 unpin-requires-in-Some c =
     let h = c.args.versions.now in
     let pin = c.args.pin.now in
-    second_is_pinned c.args.number h pin c.requires c.in-Some.second c.unpin.new.self c.in-Some.is (fades_first c.args.number h pin c.requires c.unpin.new.self c.unpin.ensures.circuits c.unpin.ensures.nodes c.unpin.ensures.kept)
+    second_is_pinned c.args.number h pin c.requires c.in-Some.second c.unpin.new.self c.in-Some.is
+    (fades_first c.args.number h pin c.requires c.unpin.new.self c.unpin.ensures.circuits c.unpin.ensures.nodes c.unpin.ensures.kept)
 
 pub returns-in-Some : goal.returns-in-Some
 returns-in-Some c =

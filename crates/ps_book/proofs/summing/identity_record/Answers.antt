@@ -26,4 +26,9 @@ returns c =
     let none : c.in_ok-items.items.value ≡ [] = c.in_ok-items.ensures.ok ∙ c.from_vec.ensures ∙ ap (map prims_of) c.new-2.ensures.items in
     let moves : c.from_vec-2.result ≡ Id ∷ [] = c.from_vec-2.ensures ∙ c.in_ok-push.ensures.items ∙ ap (λ xs. xs ++ Id ∷ []) c.new-moves.ensures.items in
     subst (IsIdentity c.args.n) (sym c.in_ok-new.ensures.ok)
-    (record { qubits = refl; items = none; filled = identity_fills c.args.n c.in_ok-identity.field-0 c.in_ok-sum.sum.value c.from_vec-2.result c.in_ok-identity.ensures.sum c.in_ok-sum.ensures.ok moves })
+    (record {
+      qubits = refl;
+      items = none;
+      filled = identity_fills c.args.n c.in_ok-identity.field-0 c.in_ok-sum.sum.value c.from_vec-2.result
+          c.in_ok-identity.ensures.sum c.in_ok-sum.ensures.ok moves;
+    })

@@ -17,5 +17,6 @@ returns-in-None c =
 pub returns-in-Some : goal.returns-in-Some
 returns-in-Some c =
     let s = c.args.self.now in
-    limit_decides (fields_of s) s.sound c.args.place.now c.requires.kept c.args.root c.requires.root c.requires.settled c.in-Some.node c.in-Some.ensures.value c.in-Some.ensures.passed
+    limit_decides (fields_of s) s.sound c.args.place.now c.requires.kept c.args.root c.requires.root c.requires.settled c.in-Some.node
+    c.in-Some.ensures.value c.in-Some.ensures.passed
     (λ e. c.kept_at.ensures.below (found_some c.kept_at.result _ _ c.kept_at.ensures.value e))

@@ -14,7 +14,8 @@ missing_of-requires c = kept_there (fields_of c.args.self.now) c.args.place.now 
 pub returns-then-not-settled : goal.returns-then-not-settled
 returns-then-not-settled c =
     let s = c.args.self.now in
-    done_unsettled (fields_of s) s.sound c.args.place.now c.requires c.missing_of.result c.plain.result.reply c.plain.ensures (sym c.settled.ensures ∙ c.if-not-settled.true) c.missing_of.ensures
+    done_unsettled (fields_of s) s.sound c.args.place.now c.requires c.missing_of.result c.plain.result.reply c.plain.ensures
+    (sym c.settled.ensures ∙ c.if-not-settled.true) c.missing_of.ensures
 
 pub record_told-requires-clause-settled : goal.record_told-requires-clause-settled
 record_told-requires-clause-settled c = sym c.settled.ensures ∙ c.if-not-settled.false

@@ -9,7 +9,10 @@ pub invariant_of-self : goal.invariant_of-self
 invariant_of-self c =
     let s = c.args.self.now in
     let r = c.args.ready in
-    record { sound = claimed_sound (fields_of s) s.sound c.args.seat (record { place = r.place; node = r.node; entry = c.args.number }) (ready_segment (fields_of s) r c.requires.there) (ready_sides (fields_of s) r c.requires.there) }
+    record {
+      sound = claimed_sound (fields_of s) s.sound c.args.seat (record { place = r.place; node = r.node; entry = c.args.number })
+          (ready_segment (fields_of s) r c.requires.there) (ready_sides (fields_of s) r c.requires.there);
+    }
 
 pub returns-in-Err : goal.returns-in-Err
 returns-in-Err c =

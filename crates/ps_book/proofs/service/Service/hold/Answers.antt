@@ -10,12 +10,14 @@ pin_both-requires-clause-room c =
 pub pin_both-requires-clause-live : goal.pin_both-requires-clause-live
 pin_both-requires-clause-live c =
     let s = c.args.self.now in
-    releases_live c.args.number c.args.seat (fields_of s) s.sound c.requires.near (fields_of c.release.new.self) c.release.ensures.releases c.args.first c.requires.live
+    releases_live c.args.number c.args.seat (fields_of s) s.sound c.requires.near (fields_of c.release.new.self) c.release.ensures.releases
+    c.args.first c.requires.live
 
 pub pin_both-requires-clause-also : goal.pin_both-requires-clause-also
 pin_both-requires-clause-also c =
     let s = c.args.self.now in
-    releases_live_maybe c.args.number c.args.seat (fields_of s) s.sound c.requires.near (fields_of c.release.new.self) c.release.ensures.releases c.args.second c.requires.also
+    releases_live_maybe c.args.number c.args.seat (fields_of s) s.sound c.requires.near (fields_of c.release.new.self) c.release.ensures.releases
+    c.args.second c.requires.also
 
 pub invariant_of-self : goal.invariant_of-self
 invariant_of-self c =

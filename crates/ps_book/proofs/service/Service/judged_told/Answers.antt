@@ -8,7 +8,8 @@ use Rattle.ps_book.proofs.service.Service.judged_told.Goals as goal
 pub returns-then-not-are_pinned : goal.returns-then-not-are_pinned
 returns-then-not-are_pinned c =
     let s = c.args.self.now in
-    concludes_other (fields_of s) s.sound c.args.pin.now c.requires c.args.judged.now c.args.proof c.are_pinned.result c.plain.result.reply c.if-not-are_pinned.true
+    concludes_other (fields_of s) s.sound c.args.pin.now c.requires c.args.judged.now c.args.proof c.are_pinned.result c.plain.result.reply
+    c.if-not-are_pinned.true
     (subst (λ j. TellsPair (fields_of s) c.args.pin.now j c.are_pinned.result) c.deref.ensures c.are_pinned.ensures.both) c.plain.ensures
 
 pub returns-then-total-gt-MOST_TERMS : goal.returns-then-total-gt-MOST_TERMS
@@ -16,7 +17,8 @@ returns-then-total-gt-MOST_TERMS c =
     let s = c.args.self.now in
     concludes_full (fields_of s) s.sound c.args.pin.now c.requires c.args.judged.now c.args.proof c.are_pinned.result c.if-not-are_pinned.false
     (subst (λ j. TellsPair (fields_of s) c.args.pin.now j c.are_pinned.result) c.deref.ensures c.are_pinned.ensures.both) c.are_pinned.ensures.one_alone
-    c.size.result c.plain-then-total-gt-MOST_TERMS.result.reply (c.size.ensures ∙ ap size c.deref-2.ensures) (omega (arith, c.if-total-gt-MOST_TERMS.true)) c.plain-then-total-gt-MOST_TERMS.ensures
+    c.size.result c.plain-then-total-gt-MOST_TERMS.result.reply (c.size.ensures ∙ ap size c.deref-2.ensures)
+    (omega (arith, c.if-total-gt-MOST_TERMS.true)) c.plain-then-total-gt-MOST_TERMS.ensures
 
 pub returns-in-Ok : goal.returns-in-Ok
 returns-in-Ok c =

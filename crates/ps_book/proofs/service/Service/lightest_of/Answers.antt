@@ -32,13 +32,16 @@ returns-then-comes_before c =
     let pin = c.args.pin.now in
     let q = c.in-Some.second in
     record {
-      value = c.lightest_of_two.ensures.value ∙ sym (pinned_before f s.sound (claims_of s.claims) pin q c.in-Some.is c.requires (sym c.comes_before.ensures ∙ c.if-comes_before.true));
-      ready = ready_two f s.sound (claims_of s.claims) q pin.first (c.requires.second q c.in-Some.is) c.requires.first c.lightest_of_two.result c.lightest_of_two.ensures.value;
+      value = c.lightest_of_two.ensures.value ∙ sym (pinned_before f s.sound (claims_of s.claims) pin q c.in-Some.is c.requires
+          (sym c.comes_before.ensures ∙ c.if-comes_before.true));
+      ready = ready_two f s.sound (claims_of s.claims) q pin.first (c.requires.second q c.in-Some.is) c.requires.first c.lightest_of_two.result
+          c.lightest_of_two.ensures.value;
       settled = settled_before f pin q c.lightest_of_two.result c.in-Some.is c.lightest_of_two.ensures.none;
     }
 
 pub lightest_of_two-requires-else-comes_before-clause-second : goal.lightest_of_two-requires-else-comes_before-clause-second
-lightest_of_two-requires-else-comes_before-clause-second c = kept_there (fields_of c.args.self.now) c.in-Some.second (c.requires.second c.in-Some.second c.in-Some.is)
+lightest_of_two-requires-else-comes_before-clause-second c = kept_there (fields_of c.args.self.now) c.in-Some.second
+    (c.requires.second c.in-Some.second c.in-Some.is)
 
 pub returns-else-comes_before : goal.returns-else-comes_before
 returns-else-comes_before c =
@@ -47,7 +50,9 @@ returns-else-comes_before c =
     let pin = c.args.pin.now in
     let q = c.in-Some.second in
     record {
-      value = c.lightest_of_two-else-comes_before.ensures.value ∙ sym (pinned_behind f s.sound (claims_of s.claims) pin q c.in-Some.is c.requires (sym c.comes_before.ensures ∙ c.if-comes_before.false));
-      ready = ready_two f s.sound (claims_of s.claims) pin.first q c.requires.first (c.requires.second q c.in-Some.is) c.lightest_of_two-else-comes_before.result c.lightest_of_two-else-comes_before.ensures.value;
+      value = c.lightest_of_two-else-comes_before.ensures.value ∙ sym (pinned_behind f s.sound (claims_of s.claims) pin q c.in-Some.is c.requires
+          (sym c.comes_before.ensures ∙ c.if-comes_before.false));
+      ready = ready_two f s.sound (claims_of s.claims) pin.first q c.requires.first (c.requires.second q c.in-Some.is)
+          c.lightest_of_two-else-comes_before.result c.lightest_of_two-else-comes_before.ensures.value;
       settled = settled_behind f pin q c.lightest_of_two-else-comes_before.result c.in-Some.is c.lightest_of_two-else-comes_before.ensures.none;
     }

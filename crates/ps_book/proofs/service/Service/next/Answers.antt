@@ -12,8 +12,10 @@ use Rattle.ps_book.proofs.Giving.{idle_leaves, given_leaves, ready_all, claims_w
 use Rattle.ps_book.proofs.service.Service.next.Goals as goal
 
 pub returns-then-pinned : goal.returns-then-pinned
-returns-then-pinned c = λ t so. subst (λ b. Leaves (λ new. NextsOr t c.args.number c.args.seat b c.next_pinned.result.reply new) (fields_of c.next_pinned.new.self)) (sym c.if-pinned.true)
-    (c.next_pinned.ensures t (subst (λ g. Stands g (unclaimed c.args.seat t)) (sym c.unclaim.ensures) (unclaimed_stands (fields_of c.args.self.now) t c.args.seat so)))
+returns-then-pinned c = λ t so. subst (λ b. Leaves (λ new. NextsOr t c.args.number c.args.seat b c.next_pinned.result.reply new)
+    (fields_of c.next_pinned.new.self)) (sym c.if-pinned.true)
+    (c.next_pinned.ensures t (subst (λ g. Stands g (unclaimed c.args.seat t)) (sym c.unclaim.ensures)
+    (unclaimed_stands (fields_of c.args.self.now) t c.args.seat so)))
 
 pub returns-in-None : goal.returns-in-None
 returns-in-None c =
@@ -35,4 +37,5 @@ returns-in-Some c =
     (given_leaves (fields_of s) t c.args.number c.args.seat s.sound
     (subst (λ g. Stands g (unclaimed c.args.seat t)) (sym c.unclaim.ensures) (unclaimed_stands (fields_of c.args.self.now) t c.args.seat so))
     c.in-Some.ready c.give.result.reply (fields_of c.give.new.self)
-    (subst (λ w. lightest w (open_segments passed s.versions) ≡ Some c.in-Some.ready) (claims_weigh s.claims s.sound.seats.1) (sym c.in-Some.ensures.value)) c.give.ensures)
+    (subst (λ w. lightest w (open_segments passed s.versions) ≡ Some c.in-Some.ready) (claims_weigh s.claims s.sound.seats.1)
+    (sym c.in-Some.ensures.value)) c.give.ensures)

@@ -9,7 +9,8 @@ use Rattle.ps_book.proofs.service.Service.sum_told.Goals as goal
 pub returns-in-Judged : goal.returns-in-Judged
 returns-in-Judged c =
     let f = fields_of c.args.self.now in
-    subst (λ o. ConcludesSum f c.args.pin.now o c.plain.result.reply) (sym c.in-Judged.is) (sum_judged f c.args.pin.now _ _ c.plain.result.reply c.plain.ensures)
+    subst (λ o. ConcludesSum f c.args.pin.now o c.plain.result.reply) (sym c.in-Judged.is)
+    (sum_judged f c.args.pin.now _ _ c.plain.result.reply c.plain.ensures)
 
 pub done_told-requires : goal.done_told-requires
 done_told-requires c = c.requires.first

@@ -24,7 +24,8 @@ returns-in-None c =
     let s = c.args.self.now in
     let k = c.requires.kept in
     IfOk-weaker c.identity_record.result _ _
-    (λ a h t so. comes_to_identity (fields_of s) s.sound c.args.place.now k c.qubits_at.result a.value (sym c.in-None.ensures.value) (c.qubits_at.ensures k.circuit k.circuit_is) h t so)
+    (λ a h t so. comes_to_identity (fields_of s) s.sound c.args.place.now k c.qubits_at.result a.value (sym c.in-None.ensures.value)
+    (c.qubits_at.ensures k.circuit k.circuit_is) h t so)
     c.identity_record.ensures
 
 pub deciding-requires-clause-root : goal.deciding-requires-clause-root

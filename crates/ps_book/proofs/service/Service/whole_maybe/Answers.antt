@@ -15,4 +15,5 @@ whole_at-requires-clause-settled c = c.requires.settled c.in-Some.place c.in-Som
 
 pub returns-in_ok-record-in-Some : goal.returns-in_ok-record-in-Some
 returns-in_ok-record-in-Some c =
-    λ t so. subst (λ o. SecondComesTo t o (Some c.of.result)) (sym c.in-Some.is) (subst (ComesToAt t c.in-Some.place) (sym c.of.ensures) (c.in_ok-record-in-Some.ensures t so))
+    λ t so. subst (λ o. SecondComesTo t o (Some c.of.result)) (sym c.in-Some.is)
+    (subst (ComesToAt t c.in-Some.place) (sym c.of.ensures) (c.in_ok-record-in-Some.ensures t so))
