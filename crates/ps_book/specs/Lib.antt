@@ -7,3 +7,4 @@ pub mod Books
 pub mod Wanting
 pub mod Releases
 pub mod Conclusions
+pub mod Lightest

@@ -1,14 +1,14 @@
 //! What settled versions come to, and how questions about one version end.
 ghost use Rattle.std.specs.Prelude.{◌≡◌, ◌<◌, ◌≤◌, true, Some, IfOk};
 ghost use Rattle.ps_versions.specs.Lookup.{root_of};
-ghost use Rattle.ps_versions.specs.Questions.{is_settled};
 ghost use Rattle.ps_journal.specs.Summing.{ComesToAt, IsIdentity};
-ghost use Rattle.ps_views.specs.Fields.{held_at, passed};
+ghost use Rattle.ps_views.specs.Fields.{held_at};
 ghost use Rattle.ps_views.specs.Pinned.{KeptAt, HasPinned};
 ghost use Rattle.ps_journal.specs.State.{State};
 ghost use Rattle.ps_views.specs.Stands.{Stands, Leaves};
 ghost use Rattle.ps_book.specs.Services.{fields_of};
 ghost use Rattle.ps_book.specs.Wanting.{SumsOr};
+ghost use Rattle.ps_book.specs.Lightest.{is_settled_at};
 ghost use Rattle.ps_book.specs.Conclusions.{ConcludesSum, ConcludesDone, TellsSum, IsDeciding};
 
 use crate::judging::crowded_reply;
@@ -69,7 +69,7 @@ impl Service {
     /// What a version, which is settled, comes to.
     fn record_told(&self, place: &Place) -> Result<Told, AllocError>
         requires kept { KeptAt (fields_of self.now) place.now }
-        requires settled { is_settled passed self.now.versions (held_at self.now.versions place.now) ≡ true }
+        requires settled { is_settled_at self.now.versions place.now ≡ true }
         ensures { IfOk result (λ told. TellsSum (fields_of self.now) place.now told.reply) }
     {
         let record = self.whole_at(place)?;
@@ -79,7 +79,7 @@ impl Service {
     /// The record that a version, which is settled, comes to.
     pub(crate) fn whole_at(&self, place: &Place) -> Result<Arc<Record>, AllocError>
         requires kept { KeptAt (fields_of self.now) place.now }
-        requires settled { is_settled passed self.now.versions (held_at self.now.versions place.now) ≡ true }
+        requires settled { is_settled_at self.now.versions place.now ≡ true }
         ensures { IfOk result (λ a. (t : State) → Stands (fields_of self.now) t → ComesToAt t place.now a.value) }
     {
         match self.versions.root(place) {
@@ -91,7 +91,7 @@ impl Service {
     /// The segment whose record settles a version: its root, or the first at which a limit was passed.
     fn deciding(&self, place: &Place, root: Node) -> Node
         requires kept { KeptAt (fields_of self.now) place.now }
-        requires settled { is_settled passed self.now.versions (held_at self.now.versions place.now) ≡ true }
+        requires settled { is_settled_at self.now.versions place.now ≡ true }
         requires root { root_of (held_at self.now.versions place.now) ≡ Some root }
         ensures { IsDeciding (fields_of self.now) place.now result }
     {

@@ -4,8 +4,8 @@ ghost use Rattle.seg_tree.specs.Table.{tree};
 ghost use Rattle.ps_versions.specs.Held.{Circuit};
 ghost use Rattle.ps_versions.specs.Lookup.{circuit_at};
 ghost use Rattle.ps_versions.specs.Records.{record_at};
-ghost use Rattle.ps_versions.specs.Questions.{is_ready, is_settled};
-ghost use Rattle.ps_versions.specs.Choices.{lightest, lighter_of, open_at};
+ghost use Rattle.ps_versions.specs.Questions.{is_ready};
+ghost use Rattle.ps_versions.specs.Choices.{lightest};
 ghost use Rattle.ps_views.specs.Fields.{held_at, passed};
 ghost use Rattle.ps_views.specs.Pinned.{KeptAt, HasPinned};
 ghost use Rattle.ps_views.specs.OpenWhere.{open_pinned, AreSettledAt};
@@ -19,6 +19,7 @@ ghost use Rattle.ps_views.specs.Stands.{Stands, Leaves};
 ghost use Rattle.ps_book.specs.Services.{fields_of};
 ghost use Rattle.ps_book.specs.Wanting.{NextsOr};
 ghost use Rattle.ps_book.specs.Counts.{claims_of};
+ghost use Rattle.ps_book.specs.Lightest.{lightest_of, is_settled_at};
 
 use crate::claims::Claims;
 use crate::service::Service;
@@ -85,8 +86,8 @@ impl Service {
     fn lightest_of_two(&self, first: &Place, second: &Place) -> Option<Ready>
         requires first { IsSome (held_at self.now.versions first.now) }
         requires second { IsSome (held_at self.now.versions second.now) }
-        ensures value { result ≡ lighter_of (claims_of self.now.claims) (lightest (claims_of self.now.claims) (open_at passed self.now.versions first.now)) (lightest (claims_of self.now.claims) (open_at passed self.now.versions second.now)) }
-        ensures none { is_none result ≡ (is_settled passed self.now.versions (held_at self.now.versions first.now) && is_settled passed self.now.versions (held_at self.now.versions second.now)) }
+        ensures value { result ≡ lightest_of self.now.claims self.now.versions first.now second.now }
+        ensures none { is_none result ≡ (is_settled_at self.now.versions first.now && is_settled_at self.now.versions second.now) }
     {
         let best = self.versions.lightest_at(first, &self.claims, None);
         self.versions.lightest_at(second, &self.claims, best)
@@ -190,7 +191,7 @@ impl Service {
     /// What a version, which is settled, comes to, where there is one.
     fn whole_maybe(&self, place: &Option<Place>) -> Result<Option<Shared<Record>>, AllocError>
         requires kept { (p : Place) → place.now ≡ Some p → KeptAt (fields_of self.now) p }
-        requires settled { (p : Place) → place.now ≡ Some p → is_settled passed self.now.versions (held_at self.now.versions p) ≡ true }
+        requires settled { (p : Place) → place.now ≡ Some p → is_settled_at self.now.versions p ≡ true }
         ensures { IfOk result (λ b. SecondComesIn (fields_of self.now) place.now b) }
     {
         match place {
