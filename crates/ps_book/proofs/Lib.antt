@@ -9,3 +9,11 @@ pub mod SplicedVersions
 pub mod ShownItems
 pub mod PublishedRecords
 pub mod VersionCounts
+pub mod Releasing
+pub mod Giving
+pub mod Belonging
+pub mod Summed
+pub mod Concluding
+pub mod Replying
+pub mod Identities
+pub mod Terms

@@ -24,4 +24,13 @@ more_sound f n s h = record {
 }
 
 pub more_stands : (f : Fields) (n : ℕ) (t : State) → Stands f t → Stands (record f { terms = f.terms + n }) (with_terms n t)
-more_stands f n t s = record { circuits = s.circuits; published = s.published; unnamed = s.unnamed; pins = s.pins; claims = s.claims; terms = ap (λ m. m + n) s.terms; names = s.names }
+more_stands f n t s = record {
+  circuits = s.circuits;
+  published = s.published;
+  unnamed = s.unnamed;
+  pins = s.pins;
+  claims = s.claims;
+  terms = ap
+      (λ m. m + n) s.terms;
+  names = s.names;
+}

@@ -8,3 +8,6 @@ pub mod Wanting
 pub mod Additions
 pub mod Contents
 pub mod Numbers
+pub mod Releases
+pub mod Conclusions
+pub mod Lightest

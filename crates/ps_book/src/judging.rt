@@ -1,12 +1,15 @@
 //! How questions about two versions end.
-ghost use Rattle.std.specs.Prelude.{◌≡◌, ◌<◌, true};
+ghost use Rattle.std.specs.Prelude.{◌≡◌, ◌<◌, true, false, None, IfOk};
 ghost use Rattle.ps_journal.specs.declared.commands.Outcome.TheVariants.{Crowded};
+ghost use Rattle.ps_journal.specs.declared.replies.Reply.TheVariants.{Answered};
 ghost use Rattle.ps_journal.specs.Plain.{is_plain};
 ghost use Rattle.ps_journal.specs.Summing.{GivesUp};
 ghost use Rattle.ps_journal.specs.State.{State};
 ghost use Rattle.ps_views.specs.Stands.{Stands, Leaves};
 ghost use Rattle.ps_book.specs.Services.{fields_of};
 ghost use Rattle.ps_book.specs.Wanting.{AnswersOr};
+ghost use Rattle.ps_views.specs.Pinned.{KeptAt, HasPinned};
+ghost use Rattle.ps_book.specs.Conclusions.{counted, Fits, Concludes, TellsOne, TellsPair};
 
 use crate::service::{MOST_TERMS, Service};
 use crate::told::Told;
@@ -35,7 +38,10 @@ impl Service {
     }
 
     /// What a question under a pin is answered.
-    fn answer_told(&self, pin: &Pin, outcome: &Outcome) -> Told {
+    fn answer_told(&self, pin: &Pin, outcome: &Outcome) -> Told
+        requires { HasPinned (fields_of self.now) pin.now }
+        ensures { Concludes (fields_of self.now) pin.now outcome.now result.reply }
+    {
         match outcome {
             Outcome::Judged { judged, proof } => self.judged_told(pin, judged, *proof),
             Outcome::Done => Told::plain(Reply::OtherRun),
@@ -45,7 +51,10 @@ impl Service {
     }
 
     /// What a comparison of two records under a pin is answered.
-    fn judged_told(&self, pin: &Pin, judged: &Arc<Judged>, proof: bool) -> Told {
+    fn judged_told(&self, pin: &Pin, judged: &Arc<Judged>, proof: bool) -> Told
+        requires { HasPinned (fields_of self.now) pin.now }
+        ensures { Concludes (fields_of self.now) pin.now (Outcome.Judged judged.now proof) result.reply }
+    {
         if !self.are_pinned(pin, judged) {
             return Told::plain(Reply::OtherRun);
         }
@@ -60,7 +69,11 @@ impl Service {
     }
 
     /// Whether both records belong to the versions that a pin names, each in its place.
-    fn are_pinned(&self, pin: &Pin, judged: &Judged) -> bool {
+    fn are_pinned(&self, pin: &Pin, judged: &Judged) -> bool
+        requires { HasPinned (fields_of self.now) pin.now }
+        ensures one_alone { pin.now.second ≡ None → result ≡ false }
+        ensures both { TellsPair (fields_of self.now) pin.now judged.now result }
+    {
         match &pin.second {
             None => false,
             Some(second) => {
@@ -71,7 +84,10 @@ impl Service {
 
     /// Whether a record is of all items of a version, which exists; or tells of a limit that was passed at one of its
     /// segments.
-    fn belongs(&self, place: &Place, record: &Record) -> bool {
+    fn belongs(&self, place: &Place, record: &Record) -> bool
+        requires { KeptAt (fields_of self.now) place.now }
+        ensures { TellsOne (fields_of self.now) place.now «record».now result }
+    {
         if record.n != self.qubits_at(place) {
             return false;
         }
@@ -85,7 +101,10 @@ impl Service {
     }
 
     /// The terms of a verdict that was told are kept.
-    fn count_answered(&mut self, reply: &Reply) {
+    fn count_answered(&mut self, reply: &Reply)
+        requires { Fits self.old.terms reply.now }
+        ensures { (t : State) → Stands (fields_of self.old) t → Stands (fields_of self.new) (counted reply.now t) }
+    {
         match reply {
             Reply::Answered { judged, .. } => self.terms += judged.get().size(),
             _ => (),
@@ -94,7 +113,9 @@ impl Service {
 }
 
 /// A verdict as it is told.
-fn verdict_told(judged: &Arc<Judged>, proof: bool) -> Result<Told, AllocError> {
+fn verdict_told(judged: &Arc<Judged>, proof: bool) -> Result<Told, AllocError>
+    ensures { IfOk result (λ told. told.reply ≡ Answered judged.now.value proof) }
+{
     let judged = Shared::of(Arc::try_clone(judged)?);
     Told::shared(Reply::Answered { judged, proof })
 }

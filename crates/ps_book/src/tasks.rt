@@ -1,15 +1,25 @@
 //! Which segment a seat computes next.
-ghost use Rattle.std.specs.Prelude.{ℕ, ◌≡◌, ◌<◌, Some, IsSome, IfOk};
+ghost use Rattle.std.specs.Prelude.{ℕ, ◌≡◌, ◌<◌, ◌&&◌, true, length, Some, None, is_none, IsSome, IfSome, IfOk};
+ghost use Rattle.seg_tree.specs.Table.{tree};
 ghost use Rattle.ps_versions.specs.Held.{Circuit};
 ghost use Rattle.ps_versions.specs.Lookup.{circuit_at};
 ghost use Rattle.ps_versions.specs.Records.{record_at};
-ghost use Rattle.ps_views.specs.Tasks.{unclaims};
+ghost use Rattle.ps_versions.specs.Questions.{is_ready};
+ghost use Rattle.ps_versions.specs.Choices.{lightest};
+ghost use Rattle.ps_views.specs.Fields.{held_at, passed};
+ghost use Rattle.ps_views.specs.Pinned.{KeptAt, HasPinned};
+ghost use Rattle.ps_views.specs.OpenWhere.{open_pinned, AreSettledAt};
+ghost use Rattle.ps_views.specs.Readiness.{IsReadyAt};
+ghost use Rattle.ps_views.specs.Tasks.{unclaims, Gives, IsWorkAt, TellsTask, SecondComesIn, TellsBoth, SettlesIn};
+ghost use Rattle.ps_script.specs.declared.name.Place.{Place};
+ghost use Rattle.ps_journal.specs.Claiming.{claims_node};
 ghost use Rattle.ps_views.specs.declared.filed.Filed.{Filed};
-ghost use Rattle.ps_journal.specs.State.{State};
+ghost use Rattle.ps_journal.specs.State.{State, unclaimed};
 ghost use Rattle.ps_views.specs.Stands.{Stands, Leaves};
 ghost use Rattle.ps_book.specs.Services.{fields_of};
 ghost use Rattle.ps_book.specs.Wanting.{NextsOr};
 ghost use Rattle.ps_book.specs.Counts.{claims_of};
+ghost use Rattle.ps_book.specs.Lightest.{lightest_of, is_settled_at};
 
 use crate::claims::Claims;
 use crate::service::Service;
@@ -40,7 +50,10 @@ impl Service {
     }
 
     /// The same of the versions that the seat has pinned.
-    fn next_pinned(&mut self, number: u32, seat: u32) -> Told {
+    fn next_pinned(&mut self, number: u32, seat: u32) -> Told
+        requires { seat < 64 }
+        ensures { (t : State) → Stands (fields_of self.old) (unclaimed seat t) → Leaves (λ new. NextsOr t number seat true result.reply new) (fields_of self.new) }
+    {
         match self.pins[seat as usize] {
             None => Told::plain(Reply::NoPin),
             Some(pin) => match self.lightest_of(&pin) {
@@ -51,7 +64,12 @@ impl Service {
     }
 
     /// The first ready segment with the fewest claims, of the versions that a pin names.
-    fn lightest_of(&self, pin: &Pin) -> Option<Ready> {
+    fn lightest_of(&self, pin: &Pin) -> Option<Ready>
+        requires { HasPinned (fields_of self.now) pin.now }
+        ensures value { result ≡ lightest (claims_of self.now.claims) (open_pinned self.now.versions pin.now) }
+        ensures ready { IfSome result (IsReadyAt (fields_of self.now)) }
+        ensures settled { result ≡ None → AreSettledAt (fields_of self.now) pin.now }
+    {
         match &pin.second {
             None => self.versions.lightest_at(&pin.first, &self.claims, None),
             Some(second) => {
@@ -65,13 +83,22 @@ impl Service {
     }
 
     /// The same of two versions, in this order.
-    fn lightest_of_two(&self, first: &Place, second: &Place) -> Option<Ready> {
+    fn lightest_of_two(&self, first: &Place, second: &Place) -> Option<Ready>
+        requires first { IsSome (held_at self.now.versions first.now) }
+        requires second { IsSome (held_at self.now.versions second.now) }
+        ensures value { result ≡ lightest_of self.now.claims self.now.versions first.now second.now }
+        ensures none { is_none result ≡ (is_settled_at self.now.versions first.now && is_settled_at self.now.versions second.now) }
+    {
         let best = self.versions.lightest_at(first, &self.claims, None);
         self.versions.lightest_at(second, &self.claims, best)
     }
 
     /// Gives a ready segment to a seat.
-    fn give(&mut self, number: u32, seat: u32, ready: Ready) -> Told {
+    fn give(&mut self, number: u32, seat: u32, ready: Ready) -> Told
+        requires near { seat < 64 }
+        requires there { IsReadyAt (fields_of self.old) ready }
+        ensures { Gives (fields_of self.old) number seat ready result.reply (fields_of self.new) }
+    {
         match self.task_told(number, seat, &ready) {
             Err(_) => Told::plain(Reply::Memory),
             Ok(told) => {
@@ -86,7 +113,10 @@ impl Service {
     }
 
     /// What computes a ready segment.
-    fn task_told(&self, number: u32, seat: u32, ready: &Ready) -> Result<Told, AllocError> {
+    fn task_told(&self, number: u32, seat: u32, ready: &Ready) -> Result<Told, AllocError>
+        requires { IsReadyAt (fields_of self.now) ready.now }
+        ensures { IfOk result (λ told. TellsTask (fields_of self.now) number seat ready.now told.reply) }
+    {
         let work = self.work(ready.node)?;
         let task = Task {
             seat,
@@ -109,7 +139,11 @@ impl Service {
     }
 
     /// The items of a leaf, or the records of the two sides.
-    fn work(&self, node: Node) -> Result<Work, AllocError> {
+    fn work(&self, node: Node) -> Result<Work, AllocError>
+        requires there { node < length self.now.versions.nodes }
+        requires ready { is_ready self.now.versions.kept passed (tree self.now.versions.nodes node) ≡ true }
+        ensures { IfOk result (λ w. IsWorkAt (fields_of self.now) (tree self.now.versions.nodes node) w) }
+    {
         match self.versions.nodes().look(node) {
             Seen::Leaf(_) => Ok(Work::Items(self.items_of(node)?)),
             Seen::Branch(left, right) => {
@@ -132,7 +166,11 @@ impl Service {
     }
 
     /// That all versions of a pin are settled, and what they come to.
-    fn settled_reply(&self, pin: &Pin) -> Told {
+    fn settled_reply(&self, pin: &Pin) -> Told
+        requires pinned { HasPinned (fields_of self.now) pin.now }
+        requires settled { AreSettledAt (fields_of self.now) pin.now }
+        ensures { SettlesIn (fields_of self.now) pin.now result.reply }
+    {
         match self.both_told(pin) {
             Ok(told) => told,
             Err(_) => Told::plain(Reply::Memory),
@@ -140,14 +178,22 @@ impl Service {
     }
 
     /// What the versions of a pin, which are settled, come to.
-    fn both_told(&self, pin: &Pin) -> Result<Told, AllocError> {
+    fn both_told(&self, pin: &Pin) -> Result<Told, AllocError>
+        requires pinned { HasPinned (fields_of self.now) pin.now }
+        requires settled { AreSettledAt (fields_of self.now) pin.now }
+        ensures { IfOk result (λ told. TellsBoth (fields_of self.now) pin.now told.reply) }
+    {
         let first = Shared::of(self.whole_at(&pin.first)?);
         let second = self.whole_maybe(&pin.second)?;
         Told::shared(Reply::Settled { first, second })
     }
 
     /// What a version, which is settled, comes to, where there is one.
-    fn whole_maybe(&self, place: &Option<Place>) -> Result<Option<Shared<Record>>, AllocError> {
+    fn whole_maybe(&self, place: &Option<Place>) -> Result<Option<Shared<Record>>, AllocError>
+        requires kept { (p : Place) → place.now ≡ Some p → KeptAt (fields_of self.now) p }
+        requires settled { (p : Place) → place.now ≡ Some p → is_settled_at self.now.versions p ≡ true }
+        ensures { IfOk result (λ b. SecondComesIn (fields_of self.now) place.now b) }
+    {
         match place {
             None => Ok(None),
             Some(place) => {
@@ -182,7 +228,9 @@ impl Weights for Claims {
 }
 
 /// Whether a claim names a node.
-fn is_of(claim: &Option<Claim>, node: Node) -> bool {
+fn is_of(claim: &Option<Claim>, node: Node) -> bool
+    ensures { result ≡ claims_node (Some node) claim.now }
+{
     match claim {
         None => false,
         Some(claim) => claim.node.number() == node.number(),
