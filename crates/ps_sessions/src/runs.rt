@@ -1,0 +1,93 @@
+//! What the run of a script gives.
+
+ghost use Rattle.std.specs.Prelude.{◌≡◌};
+
+use ps_journal::{Entry, Reply};
+use std::marker::Model;
+
+/// How a run ended.
+#[derive(Clone, Copy, Debug, PartialEq, Eq, Drop)]
+pub enum Ending {
+    /// All commands were answered.
+    Done,
+    /// A turn of a command was refused, with this ticket. That command is not answered, and none behind it was begun.
+    Full { ticket: u64 },
+}
+
+/// What a command of a session was answered.
+#[derive(Drop)]
+pub struct Answer {
+    pub session: u32,
+    pub reply: Reply,
+}
+
+/// Answers in order. Clauses see the list of them.
+#[derive(Drop)]
+pub struct Answers {
+    list: Vec<Answer>,
+}
+
+impl Model for Answers {
+    ghost use Rattle.std.specs.Prelude.{List};
+    ghost use Rattle.ps_sessions.specs.declared.runs.Answer.{Answer};
+
+    ghost Value = { List Answer };
+
+    ghost view = { λ s. s.list.items };
+}
+
+impl Answers {
+    /// The list that the vector holds. Takes no memory.
+    pub fn from_vec(list: Vec<Answer>) -> Answers
+        ensures { result ≡ list.items }
+    {
+        Answers { list }
+    }
+
+    /// The answers in order. Takes no memory.
+    pub fn as_slice(&self) -> &[Answer]
+        ensures { result.now ≡ self.now }
+    {
+        &self.list
+    }
+}
+
+/// The entries of a journal, the oldest first. Clauses see the list of them.
+#[derive(Drop)]
+pub struct Journal {
+    list: Vec<Entry>,
+}
+
+impl Model for Journal {
+    ghost use Rattle.std.specs.Prelude.{List};
+    ghost use Rattle.ps_journal.specs.History.{Entry};
+
+    ghost Value = { List Entry };
+
+    ghost view = { λ s. s.list.items };
+}
+
+impl Journal {
+    /// The list that the vector holds. Takes no memory.
+    pub fn from_vec(list: Vec<Entry>) -> Journal
+        ensures { result ≡ list.items }
+    {
+        Journal { list }
+    }
+
+    /// The entries, the oldest first. Takes no memory.
+    pub fn as_slice(&self) -> &[Entry]
+        ensures { result.now ≡ self.now }
+    {
+        &self.list
+    }
+}
+
+/// The run of a script: all turns that were taken, what each command was answered, in the order of the script, and how
+/// it ended.
+#[derive(Drop)]
+pub struct Run {
+    pub journal: Journal,
+    pub answers: Answers,
+    pub ending: Ending,
+}
