@@ -1,0 +1,7 @@
+pub mod Owners
+pub mod Matchings
+pub mod LineLemmas
+pub mod Serving
+pub mod Judgements
+pub mod Endings
+pub mod Above
