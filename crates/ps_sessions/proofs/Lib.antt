@@ -4,4 +4,5 @@ pub mod LineLemmas
 pub mod Serving
 pub mod Judgements
 pub mod Endings
+pub mod TurnLemmas
 pub mod Above

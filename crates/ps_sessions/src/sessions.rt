@@ -17,6 +17,7 @@ use std::alloc::{AllocError, Global};
 
 /// Does the command of a line at the book, past the gate. The seat of a session has the next number.
 fn answer<G: Gate>(alloc: Global, book: &mut Book, line: Line, gate: &G) -> Result<Reply, Full>
+    requires { IsLegal (entries book.old) }
     ensures lawful { IsLegal (entries book.new) }
     ensures done { IfOk result (λ reply. AnswersLine line reply (entries book.old) (entries book.new)) }
     ensures cut { IfErr result (λ f. BreaksOff line f.ticket (entries book.old) (entries book.new)) }
@@ -32,7 +33,10 @@ fn answer<G: Gate>(alloc: Global, book: &mut Book, line: Line, gate: &G) -> Resu
         number,
         refused: None,
     };
-    let reply = command(alloc, &mut seat, asked, gate)?;
+    let reply = match command(alloc, &mut seat, asked, gate) {
+        Ok(reply) => reply,
+        Err(full) => return Err(full),
+    };
     gate.pass(number, Point::Answered);
     Ok(reply)
 }
