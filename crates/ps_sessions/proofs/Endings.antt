@@ -5,7 +5,7 @@ use Rattle.std.proofs.lemmas.Bool.{eqb-true}
 use Rattle.ps_script.specs.declared.script.Line.{Line}
 use Rattle.ps_journal.specs.History.{Entry, IsLegal, own_entries, session_entries}
 use Rattle.ps_history.specs.Matching.{Matched}
-use Rattle.ps_sessions.specs.declared.runs.Answer.{Answer}
+use Rattle.ps_sessions.specs.declared.runs.Response.{Response}
 use Rattle.ps_sessions.specs.declared.runs.Ending.{Ending}
 use Rattle.ps_sessions.specs.declared.runs.Ending.TheVariants.{Done, Full}
 use Rattle.ps_sessions.specs.declared.runs.Run.{Run}
@@ -17,17 +17,17 @@ use Rattle.ps_sessions.proofs.LineLemmas.{none_before, none_next}
 use Rattle.ps_sessions.proofs.Serving.{AreServed}
 use Rattle.ps_sessions.proofs.Judgements.{legal_just}
 
-abbrev pub ran : List Entry → List Answer → Ending → Run
-ran journal answers ending = record { journal = journal; answers = answers; ending = ending }
+abbrev pub ran : List Entry → List Response → Ending → Run
+ran journal responses ending = record { journal = journal; responses = responses; ending = ending }
 
 -- the same run, as it is known
-pub run_as : (lines : List Line) (journal es : List Entry) (told answers : List Answer) (ending : Ending) → journal ≡ es → told ≡ answers
+pub run_as : (lines : List Line) (journal es : List Entry) (told answers : List Response) (ending : Ending) → journal ≡ es → told ≡ answers
     → IsRunOf lines (ran es answers ending) → IsRunOf lines (ran journal told ending)
 run_as lines journal es told answers ending h k w =
     subst (λ es. IsRunOf lines (ran es told ending)) (sym h) (subst (λ xs. IsRunOf lines (ran es xs ending)) (sym k) w)
 
 -- ---- all lines are answered
-pub done_run : (lines served : List Line) (es : List Entry) (answers : List Answer) → lines ≡ served ++ [] → AreServed served es answers
+pub done_run : (lines served : List Line) (es : List Entry) (answers : List Response) → lines ≡ served ++ [] → AreServed served es answers
     → IsRunOf lines (ran es answers Done)
 done_run lines served es answers split w = record {
   served = served;
@@ -48,7 +48,7 @@ done_run lines served es answers split w = record {
 }
 
 -- ---- a line is broken off
-module _ (lines served rest : List Line) (l : Line) (es journal : List Entry) (answers : List Answer) (ticket : ℕ) (split : lines ≡ served ++ l ∷ rest)
+module _ (lines served rest : List Line) (l : Line) (es journal : List Entry) (answers : List Response) (ticket : ℕ) (split : lines ≡ served ++ l ∷ rest)
     (w : AreServed served es answers) (b : BreaksOff l ticket es journal) where
   quiet : session_entries journal ≡ session_entries es
   quiet =

@@ -57,7 +57,7 @@ leads_front start (x ∷ xs) ys h = absurd (cc)
 leads_front (next {es = fs} {e = f} {t = was} {new = new} l s) xs ys h = front_at xs fs f new (next l s) (λ zs k. leads_front l xs zs k) (back ys) h
 
 -- ---- which replies tell verdicts
-is_verdict : Reply → Bool
+abbrev is_verdict : Reply → Bool
 is_verdict (Answered judged proof) = true
 is_verdict r = false
 

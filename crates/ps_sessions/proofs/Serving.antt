@@ -1,5 +1,5 @@
 -- What holds while lines are served, one after another.
-use Rattle.std.proofs.Common.{ℕ, ◌≡◌, Bool, true, false, List, [], ◌∷◌, ◌++◌, refl, sym, ap, ◌∙◌, subst, append-nil}
+use Rattle.std.proofs.Common.{ℕ, ◌≡◌, Bool, true, false, List, [], ◌∷◌, ◌++◌, refl, sym, ap, ◌∙◌, subst}
 use Rattle.std.specs.Prelude.{eqb, map}
 use Rattle.std.proofs.lemmas.Bool.{eqb-true}
 use Rattle.std.proofs.lemmas.List.{map-append}
@@ -8,14 +8,14 @@ use Rattle.ps_journal.specs.declared.replies.Reply.{Reply}
 use Rattle.ps_journal.specs.History.{Entry, IsLegal, nothing_is_legal, own_entries, session_entries}
 use Rattle.ps_history.specs.Matching.{Matched, nothing}
 use Rattle.ps_history.proofs.Lists.{last_there}
-use Rattle.ps_sessions.specs.declared.runs.Answer.{Answer}
+use Rattle.ps_sessions.specs.declared.runs.Response.{Response}
 use Rattle.ps_sessions.specs.Lines.{seat_of, commands_of, AnswersLine, Serves, start, next}
 use Rattle.ps_sessions.proofs.Owners.{own_all, all_last, grows_own, grows_other}
 use Rattle.ps_sessions.proofs.Matchings.{session_both, AddsAnswer, answer_added, matched_answer}
 use Rattle.ps_sessions.proofs.LineLemmas.{commands_here, commands_there}
 
 -- these lines were answered so, with this journal
-pub record AreServed (served : List Line) (es : List Entry) (answers : List Answer) : Type 0 where
+pub record AreServed (served : List Line) (es : List Entry) (answers : List Response) : Type 0 where
   pub legal : IsLegal es
   pub matched : (seat : ℕ) → Matched (own_entries seat es) (commands_of seat served)
   pub others : (seat : ℕ) → commands_of seat served ≡ [] → own_entries seat es ≡ []
@@ -35,16 +35,17 @@ served_none = record {
   serves = start;
 }
 
-pub served_start : (es : List Entry) (answers : List Answer) → es ≡ [] → answers ≡ [] → AreServed [] es answers
+pub served_start : (es : List Entry) (answers : List Response) → es ≡ [] → answers ≡ [] → AreServed [] es answers
 served_start es answers h k = subst (λ xs. AreServed [] xs answers) (sym h) (subst (AreServed [] []) (sym k) served_none)
 
-pub told : Line → Reply → Answer
+-- what a line is told
+abbrev pub told : Line → Reply → Response
 told l reply = record { session = l.session; reply = reply }
 
 -- one line more
-module _ (served : List Line) (es new : List Entry) (answers : List Answer) (l : Line) (reply : Reply) (w : AreServed served es answers)
+module _ (served : List Line) (es new : List Entry) (answers : List Response) (l : Line) (reply : Reply) (w : AreServed served es answers)
     (a : AnswersLine l reply es new) where
-  added : List Entry
+  abbrev added : List Entry
   added = a.adds.by.added
 
   adds : AddsAnswer added reply
@@ -87,7 +88,7 @@ module _ (served : List Line) (es new : List Entry) (answers : List Answer) (l :
 
   next_replies : map (λ x. x.reply) (answers ++ told l reply ∷ []) ≡ map (λ e. e.reply) (session_entries new)
   next_replies =
-      map-append (λ (x : Answer). x.reply) answers (told l reply ∷ [])
+      map-append (λ (x : Response). x.reply) answers (told l reply ∷ [])
       ∙ ap (λ rs. rs ++ reply ∷ []) w.replies
       ∙ ap (λ r. map (λ (e : Entry). e.reply) (session_entries es) ++ r ∷ []) (sym adds.reply_is)
       ∙ sym (map-append (λ (e : Entry). e.reply) (session_entries es) (adds.last ∷ []))
@@ -95,7 +96,7 @@ module _ (served : List Line) (es new : List Entry) (answers : List Answer) (l :
 
   next_sessions : map (λ x. x.session) (answers ++ told l reply ∷ []) ≡ map (λ x. x.session) (served ++ l ∷ [])
   next_sessions =
-      map-append (λ (x : Answer). x.session) answers (told l reply ∷ [])
+      map-append (λ (x : Response). x.session) answers (told l reply ∷ [])
       ∙ ap (λ ns. ns ++ l.session ∷ []) w.sessions
       ∙ sym (map-append (λ (x : Line). x.session) served (l ∷ []))
 

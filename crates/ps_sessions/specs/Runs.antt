@@ -37,8 +37,8 @@ pub record IsRunOf (lines : List Line) (r : Run) : Type 0 where
   -- a seat whose session has no line has no entry
   pub others : (seat : ℕ) → commands_of seat lines ≡ [] → own_entries seat r.journal ≡ []
   -- the answers are those of the entries that end commands, which come in the order of the lines
-  pub replies : map (λ a. a.reply) r.answers ≡ map (λ e. e.reply) (session_entries r.journal)
-  pub sessions : map (λ a. a.session) r.answers ≡ map (λ l. l.session) served
+  pub replies : map (λ a. a.reply) r.responses ≡ map (λ e. e.reply) (session_entries r.journal)
+  pub sessions : map (λ a. a.session) r.responses ≡ map (λ l. l.session) served
   pub seats : map (λ e. e.seat) (session_entries r.journal) ≡ map seat_of served
   -- no command took more entries than it may take
   pub steady : List Entry

@@ -5,6 +5,6 @@ pub mod runs;
 pub mod seats;
 pub mod sessions;
 
-pub use runs::{Answer, Answers, Ending, Journal, Run};
+pub use runs::{Ending, Journal, Response, Responses, Run};
 pub use seats::Alone;
 pub use sessions::run_alone;

@@ -16,36 +16,36 @@ pub enum Ending {
 
 /// What a command of a session was answered.
 #[derive(Drop)]
-pub struct Answer {
+pub struct Response {
     pub session: u32,
     pub reply: Reply,
 }
 
-/// Answers in order. Clauses see the list of them.
+/// Responses in order. Clauses see the list of them.
 #[derive(Drop)]
-pub struct Answers {
-    list: Vec<Answer>,
+pub struct Responses {
+    list: Vec<Response>,
 }
 
-impl Model for Answers {
+impl Model for Responses {
     ghost use Rattle.std.specs.Prelude.{List};
-    ghost use Rattle.ps_sessions.specs.declared.runs.Answer.{Answer};
+    ghost use Rattle.ps_sessions.specs.declared.runs.Response.{Response};
 
-    ghost Value = { List Answer };
+    ghost Value = { List Response };
 
     ghost view = { λ s. s.list.items };
 }
 
-impl Answers {
+impl Responses {
     /// The list that the vector holds. Takes no memory.
-    pub fn from_vec(list: Vec<Answer>) -> Answers
+    pub fn from_vec(list: Vec<Response>) -> Responses
         ensures { result ≡ list.items }
     {
-        Answers { list }
+        Responses { list }
     }
 
-    /// The answers in order. Takes no memory.
-    pub fn as_slice(&self) -> &[Answer]
+    /// The responses in order. Takes no memory.
+    pub fn as_slice(&self) -> &[Response]
         ensures { result.now ≡ self.now }
     {
         &self.list
@@ -88,6 +88,6 @@ impl Journal {
 #[derive(Drop)]
 pub struct Run {
     pub journal: Journal,
-    pub answers: Answers,
+    pub responses: Responses,
     pub ending: Ending,
 }

@@ -5,7 +5,7 @@ ghost use Rattle.ps_book.specs.Books.{entries};
 ghost use Rattle.ps_sessions.specs.Lines.{Adds, AnswersLine, BreaksOff};
 ghost use Rattle.ps_sessions.specs.Runs.{IsRunOf};
 
-use crate::runs::{Answer, Answers, Ending, Journal, Run};
+use crate::runs::{Ending, Journal, Response, Responses, Run};
 use crate::seats::Alone;
 use ps_book::Book;
 use ps_calls::command;
@@ -46,24 +46,24 @@ fn serve<G: Gate>(
     alloc: Global,
     book: Book,
     lines: Vec<Line>,
-    answers: Vec<Answer>,
+    responses: Vec<Response>,
     gate: &G,
 ) -> Run
     requires new { entries book ≡ [] }
-    requires none { answers.items ≡ [] }
-    requires room { vec_len lines ≤ vec_capacity answers }
+    requires none { responses.items ≡ [] }
+    requires room { vec_len lines ≤ vec_capacity responses }
     ensures { IsRunOf lines.items result }
 {
     let mut book = book;
-    let mut answers = answers;
+    let mut responses = responses;
     for line in lines {
         let session = line.session;
         match answer(alloc, &mut book, line, gate) {
-            Ok(reply) => answers.push_reserved(Answer { session, reply }),
+            Ok(reply) => responses.push_reserved(Response { session, reply }),
             Err(full) => {
                 return Run {
                     journal: Journal::from_vec(book.into_journal()),
-                    answers: Answers::from_vec(answers),
+                    responses: Responses::from_vec(responses),
                     ending: Ending::Full {
                         ticket: full.ticket,
                     },
@@ -73,7 +73,7 @@ fn serve<G: Gate>(
     }
     Run {
         journal: Journal::from_vec(book.into_journal()),
-        answers: Answers::from_vec(answers),
+        responses: Responses::from_vec(responses),
         ending: Ending::Done,
     }
 }
@@ -87,6 +87,6 @@ pub fn run_alone<G: Gate>(alloc: Global, script: Script, gate: &G) -> Result<Run
 {
     let book = Book::new(alloc)?;
     let lines = script.lines.into_vec();
-    let answers = Vec::with_capacity(alloc, lines.len())?;
-    Ok(serve(alloc, book, lines, answers, gate))
+    let responses = Vec::with_capacity(alloc, lines.len())?;
+    Ok(serve(alloc, book, lines, responses, gate))
 }

@@ -8,8 +8,8 @@ use Rattle.ps_sessions.proofs.sessions.serve.Given as goal
 abbrev pub invariant-loop-line : goal.invariant-loop-line
 invariant-loop-line g l =
     record {
-      room : length (into_iter_items l.line-iterator) + vec_len l.answers ≤ vec_capacity l.answers;
+      room : length (into_iter_items l.line-iterator) + vec_len l.responses ≤ vec_capacity l.responses;
       served : List Line;
       split : l.fn.lines.items ≡ served ++ into_iter_items l.line-iterator;
-      stands : AreServed served (entries l.book) l.answers.items;
+      stands : AreServed served (entries l.book) l.responses.items;
     }
