@@ -44,7 +44,7 @@ done_run lines served es answers split w = record {
   steady = es;
   serves = w.serves;
   last = refl;
-  just = legal_just es w.legal;
+  just = legal_just es (λ seat. commands_of seat served) w.legal w.matched;
 }
 
 -- ---- a line is broken off
@@ -94,5 +94,5 @@ module _ (lines served rest : List Line) (l : Line) (es journal : List Entry) (a
     steady = es;
     serves = w.serves;
     last = b.adds;
-    just = legal_just journal legal;
+    just = legal_just journal (λ seat. commands_of seat served) legal cut_matched;
   }

@@ -1,10 +1,14 @@
--- The verdicts of a legal journal are justified.
-use Rattle.std.proofs.Common.{ℕ, ◌≡◌, Bool, true, false, List, [], ◌∷◌, ◌++◌, length, Option, refl, sym, ap, ◌∙◌, subst, append_assoc, append-nil}
-use Rattle.std.proofs.lemmas.Bool.{false≢true}
+-- The verdicts of a legal journal, in which the entries of each seat match commands, are justified.
+use Rattle.std.proofs.Common.{ℕ, ◌≡◌, Bool, true, false, cond, List, [], ◌∷◌, ◌++◌, length, Option, Some, refl, sym, ap, ◌∙◌, subst, append_assoc, append-nil}
+use Rattle.std.proofs.lemmas.Bool.{false≢true, eq-eqb}
 use Rattle.std.specs.declared.sync.Arc.{Arc}
 use Rattle.std.specs.declared.alloc.Global.{Global}
 use mathlib.Core.Logic.{∥∥₁_map}
 use Rattle.ps_script.specs.declared.name.Place.{Place}
+use Rattle.ps_script.specs.declared.command.Command.{Command}
+use Rattle.ps_script.specs.declared.command.Command.TheVariants as command
+use Rattle.ps_reach.specs.declared.mode.Mode.{Mode}
+use Rattle.ps_reach.specs.declared.mode.Mode.TheVariants.{Exact, Phase}
 use Rattle.ps_reach.specs.declared.record.Record.{Record}
 use Rattle.ps_reach.specs.declared.judged.Judged.{Judged as AJudged}
 use Rattle.ps_journal.specs.declared.commands.Cmd.{Cmd}
@@ -13,7 +17,7 @@ use Rattle.ps_journal.specs.declared.commands.Outcome.{Outcome}
 use Rattle.ps_journal.specs.declared.replies.Reply.{Reply}
 use Rattle.ps_journal.specs.declared.replies.Reply.TheVariants.{Answered}
 use Rattle.ps_journal.specs.declared.seats.Pin.{Pin}
-use Rattle.ps_journal.specs.State.{State, empty}
+use Rattle.ps_journal.specs.State.{Version, Circuit, State, Finds, empty}
 use Rattle.ps_journal.specs.Opening as opening
 use Rattle.ps_journal.specs.Splicing as splicing
 use Rattle.ps_journal.specs.Retiring as retiring
@@ -21,13 +25,19 @@ use Rattle.ps_journal.specs.Pinning as pinning
 use Rattle.ps_journal.specs.Claiming as claiming
 use Rattle.ps_journal.specs.Publishing as publishing
 use Rattle.ps_journal.specs.Judging as judging
+use Rattle.ps_journal.specs.Judging.{FindsBoth, BelongBoth, IsJustifiedFor}
 use Rattle.ps_journal.specs.Summing as summing
 use Rattle.ps_journal.specs.Showing as showing
 use Rattle.ps_journal.specs.Step.{Step, serves, wants}
-use Rattle.ps_journal.specs.History.{Entry, LeadsTo, IsLegal, start, next}
-use Rattle.ps_history.proofs.Lists.{lasts}
-use Rattle.ps_history.proofs.Others.{LastStep, last_step}
+use Rattle.ps_journal.specs.History.{Entry, LeadsTo, IsLegal, start, next, own_entries, ends_command}
+use Rattle.ps_history.specs.Lasts.{HasPinned}
+use Rattle.ps_history.specs.Inner.{IsInner}
+use Rattle.ps_history.specs.Questions.{EndsJudging, refused, ended, EndsSumming, sum_refused, sum_ended}
+use Rattle.ps_history.specs.Matching.{MatchesCommand, AnswersCommand, Matched, nothing, inner, answer}
+use Rattle.ps_history.proofs.Lists.{lasts, some_same}
+use Rattle.ps_history.proofs.Others.{LastStep, last_step, own_both}
 use Rattle.ps_sessions.specs.Verdicts.{IsJust, AreJust}
+use Rattle.ps_sessions.proofs.PinLaws.{pins_named}
 
 -- ---- the front of a history
 -- nothing, or a last element behind others
@@ -131,54 +141,151 @@ reads_none (showing.no_room _ _) = refl
 reads_none (showing.shows _ _) = refl
 
 -- ---- the step that tells one
-module _ (before : List Entry) (t : State) (leads : LeadsTo before t) (seat : ℕ) where
-  abbrev JustTold : Reply → Type 0
-  JustTold r = (j : AJudged) (proof : Bool) → r ≡ Answered j proof → IsJust before seat j
+-- the seat has pinned two versions, to which the records that were compared belong, and the verdict is justified for them
+record Tells (t : State) (seat : ℕ) (j : AJudged) : Type 0 where
+  circuit : Circuit
+  other_circuit : Circuit
+  version : Version
+  other : Version
+  found : FindsBoth t seat circuit other_circuit version other
+  belong : BelongBoth circuit other_circuit version other j
+  justified : IsJustifiedFor circuit version other j
 
-  told_none : (r : Reply) → is_verdict r ≡ false → JustTold r
-  told_none r h j proof e = absurd (false≢true (sym h ∙ ap is_verdict e))
+-- a reply that is a verdict comes of an Answer, and is so
+record Told (t : State) (seat : ℕ) (c : Cmd) (j : AJudged) : Type 0 where
+  outcome : Outcome
+  cmd_is : c ≡ cmd.Answer outcome
+  tells : Tells t seat j
+
+abbrev TellsOf : State → ℕ → Reply → Type 0
+TellsOf t seat r = (j : AJudged) (proof : Bool) → r ≡ Answered j proof → Tells t seat j
+
+module _ {t : State} {seat : ℕ} where
+  tells_none : (r : Reply) → is_verdict r ≡ false → TellsOf t seat r
+  tells_none r h j proof e = absurd (false≢true (sym h ∙ ap is_verdict e))
 
   same_judged : (a b : AJudged) (p q : Bool) → Answered a p ≡ Answered b q → a ≡ b
   same_judged a b p q e = cc
 
-  answers_just : {new : State} {i : ℕ} {o : Outcome} {r : Reply} → judging.Answers t i seat o r new → JustTold r
-  answers_just {r = r} (judging.no_pin _) = told_none r refl
-  answers_just {r = r} (judging.gives_up _ g) = told_none r (gives_up_none g)
-  answers_just {r = r} (judging.done _) = told_none r refl
-  answers_just {r = r} (judging.one_alone _ _) = told_none r refl
-  answers_just {r = r} (judging.other_run _ _) = told_none r refl
-  answers_just {r = r} (judging.no_room _ _ _) = told_none r refl
-  answers_just (judging.answers {c = c} {d = d} {v = v} {w = w} {j = a} {proof = p} finds belong few just) = λ j proof e.
-      subst (IsJust before seat) (same_judged a.value j p proof e) record {
-        state = t;
-        leads = leads;
+  answers_tell : {new : State} {i : ℕ} {o : Outcome} {r : Reply} → judging.Answers t i seat o r new → TellsOf t seat r
+  answers_tell {r = r} (judging.no_pin _) = tells_none r refl
+  answers_tell {r = r} (judging.gives_up _ g) = tells_none r (gives_up_none g)
+  answers_tell {r = r} (judging.done _) = tells_none r refl
+  answers_tell {r = r} (judging.one_alone _ _) = tells_none r refl
+  answers_tell {r = r} (judging.other_run _ _) = tells_none r refl
+  answers_tell {r = r} (judging.no_room _ _ _) = tells_none r refl
+  answers_tell (judging.answers {c = c} {d = d} {v = v} {w = w} {j = a} {proof = p} finds belong few just) = λ j proof e.
+      subst (Tells t seat) (same_judged a.value j p proof e) record {
         circuit = c;
         other_circuit = d;
         version = v;
         other = w;
-        pinned = finds;
+        found = finds;
         belong = belong;
         justified = just;
       }
 
-  step_just : {new : State} {i : ℕ} {r : Reply} (k : Cmd) → Step t i seat k r new → JustTold r
-  step_just {r = r} k (wants _) = told_none r refl
-  step_just {r = r} (cmd.Open name text) (serves s) = told_none r (opens_none s)
-  step_just {r = r} (cmd.Splice name base from to block) (serves s) = told_none r (splices_none s)
-  step_just {r = r} (cmd.Retire name version) (serves s) = told_none r (retires_none s)
-  step_just {r = r} (cmd.Pin first second) (serves s) = told_none r (pins_none s)
-  step_just {r = r} (cmd.Next pinned) (serves s) = told_none r (nexts_none s)
-  step_just {r = r} (cmd.Publish kept) (serves s) = told_none r (publishes_none s)
-  step_just {r = r} (cmd.Answer outcome) (serves s) = answers_just s
-  step_just {r = r} (cmd.Read place) (serves s) = told_none r (reads_none s)
-  step_just {r = r} (cmd.Sum outcome) (serves s) = told_none r (sums_none s)
+  told_none : (c : Cmd) (r : Reply) → is_verdict r ≡ false → (j : AJudged) (proof : Bool) → r ≡ Answered j proof → Told t seat c j
+  told_none c r h j proof e = absurd (false≢true (sym h ∙ ap is_verdict e))
 
-last_just : (before : List Entry) (e : Entry) (j : AJudged) (proof : Bool) → e.reply ≡ Answered j proof → LeadsSome (before ++ e ∷ [])
-    → IsJust before e.seat j
-last_just before e j proof told l =
-    let s = last_step before e l.0 l.1 in
-    step_just before s.before s.leads e.seat e.cmd s.step j proof told
+  step_told : {new : State} {i : ℕ} {r : Reply} (c : Cmd) → Step t i seat c r new → (j : AJudged) (proof : Bool) → r ≡ Answered j proof
+      → Told t seat c j
+  step_told {r = r} c (wants _) = told_none c r refl
+  step_told {r = r} (cmd.Open name text) (serves s) = told_none (cmd.Open name text) r (opens_none s)
+  step_told {r = r} (cmd.Splice name base from to block) (serves s) = told_none (cmd.Splice name base from to block) r (splices_none s)
+  step_told {r = r} (cmd.Retire name version) (serves s) = told_none (cmd.Retire name version) r (retires_none s)
+  step_told {r = r} (cmd.Pin first second) (serves s) = told_none (cmd.Pin first second) r (pins_none s)
+  step_told {r = r} (cmd.Next pinned) (serves s) = told_none (cmd.Next pinned) r (nexts_none s)
+  step_told {r = r} (cmd.Publish kept) (serves s) = told_none (cmd.Publish kept) r (publishes_none s)
+  step_told {r = r} (cmd.Answer outcome) (serves s) = λ j proof e. record { outcome = outcome; cmd_is = refl; tells = answers_tell s j proof e }
+  step_told {r = r} (cmd.Read place) (serves s) = told_none (cmd.Read place) r (reads_none s)
+  step_told {r = r} (cmd.Sum outcome) (serves s) = told_none (cmd.Sum outcome) r (sums_none s)
 
-pub legal_just : (es : List Entry) → IsLegal es → AreJust es
-legal_just es legal before after e j proof whole told =
-    ∥∥₁_map legal (λ p. last_just before e j proof told (leads_front p.1 (before ++ e ∷ []) after (whole ∙ sym (append_assoc before (e ∷ []) after))))
+-- ---- what an entry is among those of its seat that match commands
+data MatchedAt (own : List Entry) (e : Entry) : Type 0 where
+  at_inner : IsInner own e → MatchedAt own e
+  at_answer : (c : Command) → AnswersCommand own c e → MatchedAt own e
+
+-- the last of them, or one before it
+module _ (xs fs : List Entry) (e f : Entry) (last_one : MatchedAt fs f) (others : (zs : List Entry) → fs ≡ xs ++ e ∷ zs → MatchedAt xs e) where
+  matched_back : {ys : List Entry} → Back ys → fs ++ f ∷ [] ≡ xs ++ e ∷ ys → MatchedAt xs e
+  matched_back empty_back h =
+      let p = lasts fs xs f e h in
+      subst (MatchedAt xs) p.1 (subst (λ zs. MatchedAt zs f) p.0 last_one)
+  matched_back (last_back zs z) h = others zs (lasts fs (xs ++ e ∷ zs) f z (h ∙ sym (append_assoc xs (e ∷ zs) (z ∷ [])))).0
+
+matched_at : {es : List Entry} {cs : List Command} → Matched es cs → (xs ys : List Entry) (e : Entry) → es ≡ xs ++ e ∷ ys → MatchedAt xs e
+matched_at nothing [] ys e h = absurd (cc)
+matched_at nothing (x ∷ xs) ys e h = absurd (cc)
+matched_at (inner {es = fs} f m i) xs ys e h = matched_back xs fs e f (at_inner i) (λ zs k. matched_at m xs zs e k) (back ys) h
+matched_at (answer {es = fs} f c m a) xs ys e h = matched_back xs fs e f (at_answer c a) (λ zs k. matched_at m xs zs e k) (back ys) h
+
+-- ---- a verdict answers a question about places that the seat has pinned
+record Asked (own : List Entry) : Type 0 where
+  first : Place
+  second : Place
+  pinned : HasPinned own first (Some second)
+
+judging_asked : (own : List Entry) (mode : Mode) (proof : Bool) (first second : Place) (e : Entry) (o : Outcome) → e.cmd ≡ cmd.Answer o
+    → EndsJudging own mode proof first second e → Asked own
+judging_asked own mode proof first second e o h (refused k _) = absurd (cc)
+judging_asked own mode proof first second e o h (ended p _ _) = record { first = first; second = second; pinned = p }
+
+summing_asked : (own : List Entry) (place : Place) (e : Entry) (o : Outcome) → e.cmd ≡ cmd.Answer o → EndsSumming own place e → Asked own
+summing_asked own place e o h (sum_refused k _) = absurd (cc)
+summing_asked own place e o h (sum_ended _ k _) = absurd (cc)
+
+command_asked : (own : List Entry) (c : Command) (e : Entry) (o : Outcome) → e.cmd ≡ cmd.Answer o → MatchesCommand own c e → Asked own
+command_asked own (command.Open name text) e o h m = absurd (cc)
+command_asked own (command.Splice place from to block) e o h m = absurd (cc)
+command_asked own (command.Retire place) e o h m = absurd (cc)
+command_asked own (command.Ask first second) e o h m = judging_asked own Exact false first second e o h m
+command_asked own (command.AskPhase first second) e o h m = judging_asked own Phase false first second e o h m
+command_asked own (command.Prove first second) e o h m = judging_asked own Exact true first second e o h m
+command_asked own (command.Sum place) e o h m = summing_asked own place e o h m
+command_asked own (command.Show place) e o h m = absurd (cc)
+
+at_asked : (own : List Entry) (e : Entry) (o : Outcome) → e.cmd ≡ cmd.Answer o → MatchedAt own e → Asked own
+at_asked own e o h (at_inner i) = absurd (false≢true (sym i.inner ∙ ap (λ c. ends_command c e.reply) h))
+at_asked own e o h (at_answer c a) = command_asked own c e o h a.matches
+
+-- ---- the whole
+-- the entries of the seat behind these and this one
+own_split : (before after : List Entry) (e : Entry)
+    → own_entries e.seat (before ++ e ∷ after) ≡ own_entries e.seat before ++ e ∷ own_entries e.seat after
+own_split before after e =
+    own_both e.seat before (e ∷ after)
+    ∙ ap (λ b. own_entries e.seat before ++ cond b (e ∷ own_entries e.seat after) (own_entries e.seat after)) (eq-eqb e.seat e.seat refl)
+
+module _ (before after : List Entry) (e : Entry) (j : AJudged) (proof : Bool) (told : e.reply ≡ Answered j proof) {cs : List Command}
+    (matched : Matched (own_entries e.seat (before ++ e ∷ after)) cs) where
+  last_just : LeadsSome (before ++ e ∷ []) → IsJust before e.seat j
+  last_just l =
+      let s = last_step before e l.0 l.1 in
+      let w = step_told e.cmd s.step j proof told in
+      let asked = at_asked (own_entries e.seat before) e w.outcome w.cmd_is
+          (matched_at matched (own_entries e.seat before) (own_entries e.seat after) e (own_split before after e)) in
+      let found = w.tells.found in
+      let named = pins_named e.seat found.pin asked.first (Some asked.second) s.leads found.pin_is asked.pinned in
+      let second : found.second ≡ asked.second = some_same found.second asked.second (sym found.second_is ∙ named.1) in
+      record {
+        first = asked.first;
+        second = asked.second;
+        pinned = asked.pinned;
+        state = s.before;
+        leads = s.leads;
+        circuit = w.tells.circuit;
+        other_circuit = w.tells.other_circuit;
+        version = w.tells.version;
+        other = w.tells.other;
+        first_found = subst (λ p. Finds s.before p w.tells.circuit w.tells.version) named.0 found.first_found;
+        second_found = subst (λ p. Finds s.before p w.tells.other_circuit w.tells.other) second found.second_found;
+        belong = w.tells.belong;
+        justified = w.tells.justified;
+      }
+
+pub legal_just : (es : List Entry) (cs : ℕ → List Command) → IsLegal es → ((seat : ℕ) → Matched (own_entries seat es) (cs seat)) → AreJust es
+legal_just es cs legal matched before after e j proof whole told =
+    ∥∥₁_map legal
+    (λ p. last_just before after e j proof told (subst (λ xs. Matched (own_entries e.seat xs) (cs e.seat)) whole (matched e.seat))
+        (leads_front p.1 (before ++ e ∷ []) after (whole ∙ sym (append_assoc before (e ∷ []) after))))

@@ -2,6 +2,7 @@ pub mod Owners
 pub mod Matchings
 pub mod LineLemmas
 pub mod Serving
+pub mod PinLaws
 pub mod Judgements
 pub mod Endings
 pub mod TurnLemmas
