@@ -54,7 +54,7 @@ module _ (lines served rest : List Line) (l : Line) (es journal : List Entry) (a
   quiet =
       ap session_entries b.adds.by.whole ∙ session_both es b.adds.by.added
       ∙ ap (λ xs. session_entries es ++ xs)
-          (idles_added (own_entries (seat_of l) es) b.adds.by.added (own_entries (seat_of l) journal) (grows_own b.adds.by) b.idles)
+      (idles_added (own_entries (seat_of l) es) b.adds.by.added (own_entries (seat_of l) journal) (grows_own b.adds.by) b.idles)
       ∙ append-nil (session_entries es)
 
   cut_matched : (seat : ℕ) → Matched (own_entries seat journal) (commands_of seat served)
@@ -63,6 +63,7 @@ module _ (lines served rest : List Line) (l : Line) (es journal : List Entry) (a
       here : Matched (own_entries (seat_of l) journal) (commands_of (seat_of l) served)
       here =
           matched_idles (own_entries (seat_of l) es) (own_entries (seat_of l) journal) (commands_of (seat_of l) served) (w.matched (seat_of l)) b.idles
+
       by : (k : Bool) → eqb (seat_of l) seat ≡ k → Matched (own_entries seat journal) (commands_of seat served)
       by true s = subst (λ n. Matched (own_entries n journal) (commands_of n served)) (eqb-true (seat_of l) seat s) here
       by false s = subst (λ xs. Matched xs (commands_of seat served)) (sym (grows_other b.adds.by seat s)) (w.matched seat)

@@ -264,7 +264,7 @@ module _ (before after : List Entry) (e : Entry) (j : AJudged) (proof : Bool) (t
       let s = last_step before e l.0 l.1 in
       let w = step_told e.cmd s.step j proof told in
       let asked = at_asked (own_entries e.seat before) e w.outcome w.cmd_is
-          (matched_at matched (own_entries e.seat before) (own_entries e.seat after) e (own_split before after e)) in
+      (matched_at matched (own_entries e.seat before) (own_entries e.seat after) e (own_split before after e)) in
       let found = w.tells.found in
       let named = pins_named e.seat found.pin asked.first (Some asked.second) s.leads found.pin_is asked.pinned in
       let second : found.second ≡ asked.second = some_same found.second asked.second (sym found.second_is ∙ named.1) in
@@ -288,4 +288,4 @@ pub legal_just : (es : List Entry) (cs : ℕ → List Command) → IsLegal es �
 legal_just es cs legal matched before after e j proof whole told =
     ∥∥₁_map legal
     (λ p. last_just before after e j proof told (subst (λ xs. Matched (own_entries e.seat xs) (cs e.seat)) whole (matched e.seat))
-        (leads_front p.1 (before ++ e ∷ []) after (whole ∙ sym (append_assoc before (e ∷ []) after))))
+    (leads_front p.1 (before ++ e ∷ []) after (whole ∙ sym (append_assoc before (e ∷ []) after))))

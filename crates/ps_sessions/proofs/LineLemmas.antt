@@ -55,6 +55,7 @@ none_next seat xs ys l h = by (eqb (seat_of l) seat) refl
   where
     behind : commands_of seat (l ∷ ys) ≡ []
     behind = last_none (commands_of seat xs) (commands_of seat (l ∷ ys)) (sym (commands_both seat xs (l ∷ ys)) ∙ h)
+
     by : (b : Bool) → eqb (seat_of l) seat ≡ b → eqb (seat_of l) seat ≡ false
     by true s = absurd (none_here l ys (ap (λ n. commands_of n (l ∷ ys)) (eqb-true (seat_of l) seat s) ∙ behind))
     by false s = s

@@ -218,8 +218,10 @@ module _ (seat : ℕ) (es : List Entry) (e : Entry) (t new : State) (earlier_one
     where
       own : own_entries seat (es ++ e ∷ []) ≡ own_entries seat es ++ e ∷ []
       own = own_both seat es (e ∷ []) ∙ ap (λ b. own_entries seat es ++ cond b (e ∷ []) []) k
+
       mine : Step t (length es) seat e.cmd e.reply new
       mine = subst (λ n. Step t (length es) n e.cmd e.reply new) (eqb-true e.seat seat k) s
+
       by : LastCase (λ x. is_pin x.cmd) (own_entries seat es) e h.entry → IsOf pin first second
       by (here q) =
           let c : e.cmd ≡ cmd.Pin first second = ap (λ (x : Entry). x.cmd) q ∙ h.cmd_is in

@@ -58,7 +58,8 @@ module _ (served : List Line) (es new : List Entry) (answers : List Response) (l
       here =
           subst (Matched (own_entries (seat_of l) new)) (sym (commands_here served l))
           (matched_answer (own_entries (seat_of l) es) (own_entries (seat_of l) new) (commands_of (seat_of l) served) l.command reply
-              (w.matched (seat_of l)) a.answers)
+          (w.matched (seat_of l)) a.answers)
+
       by : (b : Bool) → eqb (seat_of l) seat ≡ b → Matched (own_entries seat new) (commands_of seat (served ++ l ∷ []))
       by true s = subst (λ n. Matched (own_entries n new) (commands_of n (served ++ l ∷ []))) (eqb-true (seat_of l) seat s) here
       by false s =
@@ -72,7 +73,7 @@ module _ (served : List Line) (es new : List Entry) (answers : List Response) (l
       by true s =
           let here : commands_of seat served ++ l.command ∷ [] ≡ [] =
           subst (λ n. commands_of n served ++ l.command ∷ [] ≡ commands_of n (served ++ l ∷ [])) (eqb-true (seat_of l) seat s)
-              (sym (commands_here served l)) ∙ h in
+          (sym (commands_here served l)) ∙ h in
           absurd (last_there (commands_of seat served) l.command here)
       by false s = grows_other a.adds.by seat s ∙ w.others seat (sym (commands_there seat served l s) ∙ h)
 
@@ -84,7 +85,7 @@ module _ (served : List Line) (es new : List Entry) (answers : List Response) (l
   last_seat =
       all_last (seat_of l) adds.inners adds.last
       (own_all (seat_of l) (adds.inners ++ adds.last ∷ [])
-          (subst (λ xs. own_entries (seat_of l) xs ≡ xs) adds.whole a.adds.by.own))
+      (subst (λ xs. own_entries (seat_of l) xs ≡ xs) adds.whole a.adds.by.own))
 
   next_replies : map (λ x. x.reply) (answers ++ told l reply ∷ []) ≡ map (λ e. e.reply) (session_entries new)
   next_replies =

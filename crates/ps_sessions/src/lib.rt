@@ -8,3 +8,6 @@ pub mod sessions;
 pub use runs::{Ending, Journal, Response, Responses, Run};
 pub use seats::Alone;
 pub use sessions::run_alone;
+
+#[cfg(test)]
+mod tests;

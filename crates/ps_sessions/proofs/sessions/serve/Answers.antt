@@ -36,7 +36,7 @@ loop-line-preserved g c =
       stands =
           subst (AreServed (i.served ++ c.in-Some.line ∷ []) (entries c.answer.new.book)) (sym pushed.items)
           (served_next i.served (entries c.loop-line.book) (entries c.answer.new.book) c.loop-line.responses.items c.in-Some.line c.in-Ok.reply
-              i.stands c.in-Ok.ensures.done c.answer.ensures.lawful);
+          i.stands c.in-Ok.ensures.done c.answer.ensures.lawful);
     }
 
 pub returns-in-Err : goal.returns-in-Err
@@ -46,7 +46,7 @@ returns-in-Err g c =
     run_as c.args.lines.items c.from_vec.result (entries c.answer.new.book) c.from_vec-in-Err.result c.loop-line.responses.items (Full c.in-Err.full.ticket)
     (c.from_vec.ensures ∙ c.into_journal.ensures.value) c.from_vec-in-Err.ensures
     (cut_run c.args.lines.items i.served (into_iter_items c.next.new.self) c.in-Some.line (entries c.loop-line.book) (entries c.answer.new.book)
-        c.loop-line.responses.items c.in-Err.full.ticket (i.split ∙ ap (λ ls. i.served ++ ls) steps) i.stands c.in-Err.ensures.cut c.answer.ensures.lawful)
+    c.loop-line.responses.items c.in-Err.full.ticket (i.split ∙ ap (λ ls. i.served ++ ls) steps) i.stands c.in-Err.ensures.cut c.answer.ensures.lawful)
 
 pub returns : goal.returns
 returns g c =
