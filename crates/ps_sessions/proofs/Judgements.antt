@@ -160,46 +160,45 @@ record Told (t : State) (seat : ℕ) (c : Cmd) (j : AJudged) : Type 0 where
 abbrev TellsOf : State → ℕ → Reply → Type 0
 TellsOf t seat r = (j : AJudged) (proof : Bool) → r ≡ Answered j proof → Tells t seat j
 
-module _ {t : State} {seat : ℕ} where
-  tells_none : (r : Reply) → is_verdict r ≡ false → TellsOf t seat r
-  tells_none r h j proof e = absurd (false≢true (sym h ∙ ap is_verdict e))
+tells_none : {t : State} {seat : ℕ} (r : Reply) → is_verdict r ≡ false → TellsOf t seat r
+tells_none r h j proof e = absurd (false≢true (sym h ∙ ap is_verdict e))
 
-  same_judged : (a b : AJudged) (p q : Bool) → Answered a p ≡ Answered b q → a ≡ b
-  same_judged a b p q e = cc
+same_judged : (a b : AJudged) (p q : Bool) → Answered a p ≡ Answered b q → a ≡ b
+same_judged a b p q e = cc
 
-  answers_tell : {new : State} {i : ℕ} {o : Outcome} {r : Reply} → judging.Answers t i seat o r new → TellsOf t seat r
-  answers_tell {r = r} (judging.no_pin _) = tells_none r refl
-  answers_tell {r = r} (judging.gives_up _ g) = tells_none r (gives_up_none g)
-  answers_tell {r = r} (judging.done _) = tells_none r refl
-  answers_tell {r = r} (judging.one_alone _ _) = tells_none r refl
-  answers_tell {r = r} (judging.other_run _ _) = tells_none r refl
-  answers_tell {r = r} (judging.no_room _ _ _) = tells_none r refl
-  answers_tell (judging.answers {c = c} {d = d} {v = v} {w = w} {j = a} {proof = p} finds belong few just) = λ j proof e.
-      subst (Tells t seat) (same_judged a.value j p proof e) record {
-        circuit = c;
-        other_circuit = d;
-        version = v;
-        other = w;
-        found = finds;
-        belong = belong;
-        justified = just;
-      }
+answers_tell : {t : State} {i seat : ℕ} {o : Outcome} {r : Reply} {new : State} → judging.Answers t i seat o r new → TellsOf t seat r
+answers_tell {r = r} (judging.no_pin _) = tells_none r refl
+answers_tell {r = r} (judging.gives_up _ g) = tells_none r (gives_up_none g)
+answers_tell {r = r} (judging.done _) = tells_none r refl
+answers_tell {r = r} (judging.one_alone _ _) = tells_none r refl
+answers_tell {r = r} (judging.other_run _ _) = tells_none r refl
+answers_tell {r = r} (judging.no_room _ _ _) = tells_none r refl
+answers_tell {t} {i} {seat} (judging.answers {c = c} {d = d} {v = v} {w = w} {j = a} {proof = p} finds belong few just) = λ j proof e.
+    subst (Tells t seat) (same_judged a.value j p proof e) record {
+      circuit = c;
+      other_circuit = d;
+      version = v;
+      other = w;
+      found = finds;
+      belong = belong;
+      justified = just;
+    }
 
-  told_none : (c : Cmd) (r : Reply) → is_verdict r ≡ false → (j : AJudged) (proof : Bool) → r ≡ Answered j proof → Told t seat c j
-  told_none c r h j proof e = absurd (false≢true (sym h ∙ ap is_verdict e))
+told_none : {t : State} {seat : ℕ} (c : Cmd) (r : Reply) → is_verdict r ≡ false → (j : AJudged) (proof : Bool) → r ≡ Answered j proof → Told t seat c j
+told_none c r h j proof e = absurd (false≢true (sym h ∙ ap is_verdict e))
 
-  step_told : {new : State} {i : ℕ} {r : Reply} (c : Cmd) → Step t i seat c r new → (j : AJudged) (proof : Bool) → r ≡ Answered j proof
-      → Told t seat c j
-  step_told {r = r} c (wants _) = told_none c r refl
-  step_told {r = r} (cmd.Open name text) (serves s) = told_none (cmd.Open name text) r (opens_none s)
-  step_told {r = r} (cmd.Splice name base from to block) (serves s) = told_none (cmd.Splice name base from to block) r (splices_none s)
-  step_told {r = r} (cmd.Retire name version) (serves s) = told_none (cmd.Retire name version) r (retires_none s)
-  step_told {r = r} (cmd.Pin first second) (serves s) = told_none (cmd.Pin first second) r (pins_none s)
-  step_told {r = r} (cmd.Next pinned) (serves s) = told_none (cmd.Next pinned) r (nexts_none s)
-  step_told {r = r} (cmd.Publish kept) (serves s) = told_none (cmd.Publish kept) r (publishes_none s)
-  step_told {r = r} (cmd.Answer outcome) (serves s) = λ j proof e. record { outcome = outcome; cmd_is = refl; tells = answers_tell s j proof e }
-  step_told {r = r} (cmd.Read place) (serves s) = told_none (cmd.Read place) r (reads_none s)
-  step_told {r = r} (cmd.Sum outcome) (serves s) = told_none (cmd.Sum outcome) r (sums_none s)
+step_told : {t : State} {i seat : ℕ} {r : Reply} {new : State} (c : Cmd) → Step t i seat c r new → (j : AJudged) (proof : Bool) → r ≡ Answered j proof
+    → Told t seat c j
+step_told {r = r} c (wants _) = told_none c r refl
+step_told {r = r} (cmd.Open name text) (serves s) = told_none (cmd.Open name text) r (opens_none s)
+step_told {r = r} (cmd.Splice name base from to block) (serves s) = told_none (cmd.Splice name base from to block) r (splices_none s)
+step_told {r = r} (cmd.Retire name version) (serves s) = told_none (cmd.Retire name version) r (retires_none s)
+step_told {r = r} (cmd.Pin first second) (serves s) = told_none (cmd.Pin first second) r (pins_none s)
+step_told {r = r} (cmd.Next pinned) (serves s) = told_none (cmd.Next pinned) r (nexts_none s)
+step_told {r = r} (cmd.Publish kept) (serves s) = told_none (cmd.Publish kept) r (publishes_none s)
+step_told {r = r} (cmd.Answer outcome) (serves s) = λ j proof e. record { outcome = outcome; cmd_is = refl; tells = answers_tell s j proof e }
+step_told {r = r} (cmd.Read place) (serves s) = told_none (cmd.Read place) r (reads_none s)
+step_told {r = r} (cmd.Sum outcome) (serves s) = told_none (cmd.Sum outcome) r (sums_none s)
 
 -- ---- what an entry is among those of its seat that match commands
 data MatchedAt (own : List Entry) (e : Entry) : Type 0 where

@@ -1,5 +1,6 @@
 -- LAW: what a seat has pinned is what its last Pin names, as long as that was done.
-use Rattle.std.proofs.Common.{ℕ, zero, suc, ◌≡◌, Bool, true, false, cond, List, [], ◌∷◌, ◌++◌, length, Option, Some, None, refl, sym, ap, ◌∙◌, subst, append-nil, ◌+◌}
+use Rattle.std.proofs.Common.{ℕ, zero, suc, ◌≡◌, Bool, true, false, cond, List, [], ◌∷◌}
+use Rattle.std.proofs.Common.{◌++◌, length, Option, Some, None, refl, sym, ap, ◌∙◌, subst, append-nil, ◌+◌}
 use Rattle.std.specs.Prelude.{eqb, slice_index_or, slice_set}
 use Rattle.std.proofs.lemmas.Bool.{false≢true, eqb-true}
 use Rattle.std.specs.declared.sync.Arc.{Arc}
@@ -56,101 +57,102 @@ refused_kept total (Some was) pin h =
     let is : record was { refused = Some total } ≡ pin = some_same (record was { refused = Some total }) pin h in
     record { was = was; old_is = refl; first = ap (λ (p : Pin). p.first) (sym is); second = ap (λ (p : Pin). p.second) (sym is) }
 
-module _ {t new : State} {i seat : ℕ} where
-  none_kept : (o : Option Pin) → None ≡ o → (pin : Pin) → o ≡ Some pin → KeepsPin (pin_of t seat) pin
-  none_kept o h pin k = absurd (cc)
+none_some : (pin : Pin) → None ≡ Some pin → ⊥
+none_some pin h = cc
 
-  opens_kept : {name text : List ℕ} {r : Reply} → opening.Opens t i name text r new → Kept seat t new
-  opens_kept (opening.name_taken _) pin h = same (pin_of t seat) pin h
-  opens_kept (opening.circuits_full _ _) pin h = same (pin_of t seat) pin h
-  opens_kept (opening.bad _ _ _ _) pin h = same (pin_of t seat) pin h
-  opens_kept (opening.opens _ _ _) pin h = same (pin_of t seat) pin h
+opens_kept : {t : State} {i : ℕ} (seat : ℕ) {name text : List ℕ} {r : Reply} {new : State} → opening.Opens t i name text r new → Kept seat t new
+opens_kept {t} {i} seat (opening.name_taken _) pin h = same (pin_of t seat) pin h
+opens_kept {t} {i} seat (opening.circuits_full _ _) pin h = same (pin_of t seat) pin h
+opens_kept {t} {i} seat (opening.bad _ _ _ _) pin h = same (pin_of t seat) pin h
+opens_kept {t} {i} seat (opening.opens _ _ _) pin h = same (pin_of t seat) pin h
 
-  splices_kept : {name block : List ℕ} {base from to : ℕ} {r : Reply} → splicing.Splices t name base from to block r new → Kept seat t new
-  splices_kept (splicing.no_circuit _) pin h = same (pin_of t seat) pin h
-  splices_kept (splicing.stale _ _) pin h = same (pin_of t seat) pin h
-  splices_kept (splicing.span _ _ _ _) pin h = same (pin_of t seat) pin h
-  splices_kept (splicing.bad _ _ _) pin h = same (pin_of t seat) pin h
-  splices_kept (splicing.too_long _ _ _) pin h = same (pin_of t seat) pin h
-  splices_kept (splicing.nothing _ _ _ _) pin h = same (pin_of t seat) pin h
-  splices_kept (splicing.commits _ _ _ _) pin h = same (pin_of t seat) pin h
+splices_kept : {t : State} (seat : ℕ) {name block : List ℕ} {base from to : ℕ} {r : Reply} {new : State}
+    → splicing.Splices t name base from to block r new → Kept seat t new
+splices_kept {t} seat (splicing.no_circuit _) pin h = same (pin_of t seat) pin h
+splices_kept {t} seat (splicing.stale _ _) pin h = same (pin_of t seat) pin h
+splices_kept {t} seat (splicing.span _ _ _ _) pin h = same (pin_of t seat) pin h
+splices_kept {t} seat (splicing.bad _ _ _) pin h = same (pin_of t seat) pin h
+splices_kept {t} seat (splicing.too_long _ _ _) pin h = same (pin_of t seat) pin h
+splices_kept {t} seat (splicing.nothing _ _ _ _) pin h = same (pin_of t seat) pin h
+splices_kept {t} seat (splicing.commits _ _ _ _) pin h = same (pin_of t seat) pin h
 
-  retires_kept : {p : Place} {r : Reply} → retiring.Retires t i p r new → Kept seat t new
-  retires_kept (retiring.no_circuit _) pin h = same (pin_of t seat) pin h
-  retires_kept (retiring.no_version _ _) pin h = same (pin_of t seat) pin h
-  retires_kept (retiring.is_latest _ _) pin h = same (pin_of t seat) pin h
-  retires_kept (retiring.was_retired _ _ _) pin h = same (pin_of t seat) pin h
-  retires_kept (retiring.retires _ _ _) pin h = same (pin_of t seat) pin h
+retires_kept : {t : State} {i : ℕ} (seat : ℕ) {p : Place} {r : Reply} {new : State} → retiring.Retires t i p r new → Kept seat t new
+retires_kept {t} {i} seat (retiring.no_circuit _) pin h = same (pin_of t seat) pin h
+retires_kept {t} {i} seat (retiring.no_version _ _) pin h = same (pin_of t seat) pin h
+retires_kept {t} {i} seat (retiring.is_latest _ _) pin h = same (pin_of t seat) pin h
+retires_kept {t} {i} seat (retiring.was_retired _ _ _) pin h = same (pin_of t seat) pin h
+retires_kept {t} {i} seat (retiring.retires _ _ _) pin h = same (pin_of t seat) pin h
 
-  nexts_kept : {pinned : Bool} {r : Reply} → claiming.Nexts t i seat pinned r new → Kept seat t new
-  nexts_kept (claiming.no_pin _) pin h = same (pin_of t seat) pin h
-  nexts_kept (claiming.idle _) pin h = same (pin_of t seat) pin h
-  nexts_kept (claiming.settled _ _ _ _) pin h = same (pin_of t seat) pin h
-  nexts_kept (claiming.gives _ _ _ _) pin h = same (pin_of t seat) pin h
+nexts_kept : {t : State} {i : ℕ} (seat : ℕ) {pinned : Bool} {r : Reply} {new : State} → claiming.Nexts t i seat pinned r new → Kept seat t new
+nexts_kept {t} {i} seat (claiming.no_pin _) pin h = same (pin_of t seat) pin h
+nexts_kept {t} {i} seat (claiming.idle _) pin h = same (pin_of t seat) pin h
+nexts_kept {t} {i} seat (claiming.settled _ _ _ _) pin h = same (pin_of t seat) pin h
+nexts_kept {t} {i} seat (claiming.gives _ _ _ _) pin h = same (pin_of t seat) pin h
 
-  publishes_kept : {kept : Option (Arc Record Global)} {r : Reply} → publishing.Publishes t i seat kept r new → Kept seat t new
-  publishes_kept (publishing.no_claim _) pin h = same (pin_of t seat) pin h
-  publishes_kept (publishing.dropped _ _) pin h = same (pin_of t seat) pin h
-  publishes_kept (publishing.already _ _ _) pin h = same (pin_of t seat) pin h
-  publishes_kept (publishing.stands _ _) pin h = same (pin_of t seat) pin h
-  publishes_kept (publishing.other_run _ _ _) pin h = same (pin_of t seat) pin h
-  publishes_kept (publishing.no_room {r = r} _ _ _ _) pin h =
-      let total = t.terms + publishing.size r.value in
-      refused_kept total (pin_of t seat) pin (set_read t.pins seat (publishing.refused_pin total (pin_of t seat)) pin h)
-  publishes_kept (publishing.publishes _ _ _ _ _) pin h = same (pin_of t seat) pin h
+publishes_kept : {t : State} {i : ℕ} (seat : ℕ) {kept : Option (Arc Record Global)} {r : Reply} {new : State}
+    → publishing.Publishes t i seat kept r new → Kept seat t new
+publishes_kept {t} {i} seat (publishing.no_claim _) pin h = same (pin_of t seat) pin h
+publishes_kept {t} {i} seat (publishing.dropped _ _) pin h = same (pin_of t seat) pin h
+publishes_kept {t} {i} seat (publishing.already _ _ _) pin h = same (pin_of t seat) pin h
+publishes_kept {t} {i} seat (publishing.stands _ _) pin h = same (pin_of t seat) pin h
+publishes_kept {t} {i} seat (publishing.other_run _ _ _) pin h = same (pin_of t seat) pin h
+publishes_kept {t} {i} seat (publishing.no_room {r = r} _ _ _ _) pin h =
+    let total = t.terms + publishing.size r.value in
+    refused_kept total (pin_of t seat) pin (set_read t.pins seat (publishing.refused_pin total (pin_of t seat)) pin h)
+publishes_kept {t} {i} seat (publishing.publishes _ _ _ _ _) pin h = same (pin_of t seat) pin h
 
-  unpinned_kept : Kept seat t (unpinned i seat t)
-  unpinned_kept pin h = none_kept (Some pin) (set_read t.pins seat None pin h) pin refl
+unpinned_kept : (t : State) (i seat : ℕ) → Kept seat t (unpinned i seat t)
+unpinned_kept t i seat pin h = absurd (none_some pin (set_read t.pins seat None pin h))
 
-  answers_kept : {o : Outcome} {r : Reply} → judging.Answers t i seat o r new → Kept seat t new
-  answers_kept (judging.no_pin _) pin h = same (pin_of t seat) pin h
-  answers_kept (judging.gives_up _ _) pin h = unpinned_kept pin h
-  answers_kept (judging.done _) pin h = unpinned_kept pin h
-  answers_kept (judging.one_alone _ _) pin h = unpinned_kept pin h
-  answers_kept (judging.other_run _ _) pin h = unpinned_kept pin h
-  answers_kept (judging.no_room _ _ _) pin h = unpinned_kept pin h
-  answers_kept (judging.answers _ _ _ _) pin h = unpinned_kept pin h
+answers_kept : {t : State} {i : ℕ} (seat : ℕ) {o : Outcome} {r : Reply} {new : State} → judging.Answers t i seat o r new → Kept seat t new
+answers_kept {t} {i} seat (judging.no_pin _) pin h = same (pin_of t seat) pin h
+answers_kept {t} {i} seat (judging.gives_up _ _) pin h = unpinned_kept t i seat pin h
+answers_kept {t} {i} seat (judging.done _) pin h = unpinned_kept t i seat pin h
+answers_kept {t} {i} seat (judging.one_alone _ _) pin h = unpinned_kept t i seat pin h
+answers_kept {t} {i} seat (judging.other_run _ _) pin h = unpinned_kept t i seat pin h
+answers_kept {t} {i} seat (judging.no_room _ _ _) pin h = unpinned_kept t i seat pin h
+answers_kept {t} {i} seat (judging.answers _ _ _ _) pin h = unpinned_kept t i seat pin h
 
-  sums_kept : {o : Outcome} {r : Reply} → summing.Sums t i seat o r new → Kept seat t new
-  sums_kept (summing.no_pin _) pin h = same (pin_of t seat) pin h
-  sums_kept (summing.gives_up _ _) pin h = unpinned_kept pin h
-  sums_kept (summing.judged _) pin h = unpinned_kept pin h
-  sums_kept (summing.unsettled _ _ _) pin h = unpinned_kept pin h
-  sums_kept (summing.sums _ _ _ _) pin h = unpinned_kept pin h
+sums_kept : {t : State} {i : ℕ} (seat : ℕ) {o : Outcome} {r : Reply} {new : State} → summing.Sums t i seat o r new → Kept seat t new
+sums_kept {t} {i} seat (summing.no_pin _) pin h = same (pin_of t seat) pin h
+sums_kept {t} {i} seat (summing.gives_up _ _) pin h = unpinned_kept t i seat pin h
+sums_kept {t} {i} seat (summing.judged _) pin h = unpinned_kept t i seat pin h
+sums_kept {t} {i} seat (summing.unsettled _ _ _) pin h = unpinned_kept t i seat pin h
+sums_kept {t} {i} seat (summing.sums _ _ _ _) pin h = unpinned_kept t i seat pin h
 
-  reads_kept : {p : Place} {r : Reply} → showing.Reads t p r new → Kept seat t new
-  reads_kept (showing.refused _) pin h = same (pin_of t seat) pin h
-  reads_kept (showing.no_room _ _) pin h = same (pin_of t seat) pin h
-  reads_kept (showing.shows _ _) pin h = same (pin_of t seat) pin h
+reads_kept : {t : State} (seat : ℕ) {p : Place} {r : Reply} {new : State} → showing.Reads t p r new → Kept seat t new
+reads_kept {t} seat (showing.refused _) pin h = same (pin_of t seat) pin h
+reads_kept {t} seat (showing.no_room _ _) pin h = same (pin_of t seat) pin h
+reads_kept {t} seat (showing.shows _ _) pin h = same (pin_of t seat) pin h
 
-  -- want of memory
-  left : (u : State) → Some u ≡ Some new → Kept seat t u → Kept seat t new
-  left u h k = subst (Kept seat t) (some_same u new h) k
+-- want of memory
+left_kept : (seat : ℕ) (t u new : State) → Some u ≡ Some new → Kept seat t u → Kept seat t new
+left_kept seat t u new h k = subst (Kept seat t) (some_same u new h) k
 
-  same_kept : Kept seat t t
-  same_kept pin h = same (pin_of t seat) pin h
+same_kept : (seat : ℕ) (t : State) → Kept seat t t
+same_kept seat t pin h = same (pin_of t seat) pin h
 
-  unclaimed_kept : Kept seat t (unclaimed seat t)
-  unclaimed_kept pin h = same (pin_of t seat) pin h
+unclaimed_kept : (seat : ℕ) (t : State) → Kept seat t (unclaimed seat t)
+unclaimed_kept seat t pin h = same (pin_of t seat) pin h
 
-  step_kept : (c : Cmd) {r : Reply} → is_pin c ≡ false → Step t i seat c r new → Kept seat t new
-  step_kept (cmd.Open name text) p (serves s) = opens_kept s
-  step_kept (cmd.Open name text) p (wants h) = left t h same_kept
-  step_kept (cmd.Splice name base from to block) p (serves s) = splices_kept s
-  step_kept (cmd.Splice name base from to block) p (wants h) = left t h same_kept
-  step_kept (cmd.Retire name version) p (serves s) = retires_kept s
-  step_kept (cmd.Retire name version) p (wants h) = absurd (cc)
-  step_kept (cmd.Pin first second) p s = absurd (false≢true (sym p))
-  step_kept (cmd.Next pinned) p (serves s) = nexts_kept s
-  step_kept (cmd.Next pinned) p (wants h) = left (unclaimed seat t) h unclaimed_kept
-  step_kept (cmd.Publish kept) p (serves s) = publishes_kept s
-  step_kept (cmd.Publish kept) p (wants h) = left (unclaimed seat t) h unclaimed_kept
-  step_kept (cmd.Answer outcome) p (serves s) = answers_kept s
-  step_kept (cmd.Answer outcome) p (wants h) = left (unpinned i seat t) h unpinned_kept
-  step_kept (cmd.Read place) p (serves s) = reads_kept s
-  step_kept (cmd.Read place) p (wants h) = left t h same_kept
-  step_kept (cmd.Sum outcome) p (serves s) = sums_kept s
-  step_kept (cmd.Sum outcome) p (wants h) = left (unpinned i seat t) h unpinned_kept
+step_kept : {t : State} {i seat : ℕ} (c : Cmd) {r : Reply} {new : State} → is_pin c ≡ false → Step t i seat c r new → Kept seat t new
+step_kept {t} {i} {seat} (cmd.Open name text) p (serves s) = opens_kept seat s
+step_kept {t} {i} {seat} (cmd.Open name text) {new = new} p (wants h) = left_kept seat t t new h (same_kept seat t)
+step_kept {t} {i} {seat} (cmd.Splice name base from to block) p (serves s) = splices_kept seat s
+step_kept {t} {i} {seat} (cmd.Splice name base from to block) {new = new} p (wants h) = left_kept seat t t new h (same_kept seat t)
+step_kept {t} {i} {seat} (cmd.Retire name version) p (serves s) = retires_kept seat s
+step_kept {t} {i} {seat} (cmd.Retire name version) p (wants h) = absurd (cc)
+step_kept {t} {i} {seat} (cmd.Pin first second) p s = absurd (false≢true (sym p))
+step_kept {t} {i} {seat} (cmd.Next pinned) p (serves s) = nexts_kept seat s
+step_kept {t} {i} {seat} (cmd.Next pinned) {new = new} p (wants h) = left_kept seat t (unclaimed seat t) new h (unclaimed_kept seat t)
+step_kept {t} {i} {seat} (cmd.Publish kept) p (serves s) = publishes_kept seat s
+step_kept {t} {i} {seat} (cmd.Publish kept) {new = new} p (wants h) = left_kept seat t (unclaimed seat t) new h (unclaimed_kept seat t)
+step_kept {t} {i} {seat} (cmd.Answer outcome) p (serves s) = answers_kept seat s
+step_kept {t} {i} {seat} (cmd.Answer outcome) {new = new} p (wants h) = left_kept seat t (unpinned i seat t) new h (unpinned_kept t i seat)
+step_kept {t} {i} {seat} (cmd.Read place) p (serves s) = reads_kept seat s
+step_kept {t} {i} {seat} (cmd.Read place) {new = new} p (wants h) = left_kept seat t t new h (same_kept seat t)
+step_kept {t} {i} {seat} (cmd.Sum outcome) p (serves s) = sums_kept seat s
+step_kept {t} {i} {seat} (cmd.Sum outcome) {new = new} p (wants h) = left_kept seat t (unpinned i seat t) new h (unpinned_kept t i seat)
 
 -- ---- a Pin that was done
 refuses_not : {t : State} {p : Place} {r : Reply} → pinning.Refuses t p r → r ≡ Pinned → ⊥
@@ -168,7 +170,8 @@ new_pin_is first second pin h =
     let is : pinning.new_pin first second ≡ pin = some_same (pinning.new_pin first second) pin h in
     record { is_first = ap (λ (p : Pin). p.first) (sym is); is_second = ap (λ (p : Pin). p.second) (sym is) }
 
-pins_set : {t new : State} {i seat : ℕ} {first : Place} {second : Option Place} {r : Reply} → pinning.Pins t i seat first second r new → r ≡ Pinned
+pins_set : {t : State} {i seat : ℕ} {first : Place} {second : Option Place} {r : Reply} {new : State}
+    → pinning.Pins t i seat first second r new → r ≡ Pinned
     → (pin : Pin) → pin_of new seat ≡ Some pin → IsOf pin first second
 pins_set (pinning.first_refused x) h pin k = absurd (refuses_not x h)
 pins_set (pinning.second_refused _ x) h pin k = absurd (refuses_not x h)
@@ -178,7 +181,8 @@ pins_set {t = t} {seat = seat} {first = first} (pinning.pins_one _) h pin k =
 pins_set {t = t} {seat = seat} {first = first} (pinning.pins_two {second = second} _ _ _) h pin k =
     new_pin_is first (Some second) pin (set_read t.pins seat (Some (pinning.new_pin first (Some second))) pin k)
 
-step_set : {t new : State} {i seat : ℕ} {first : Place} {second : Option Place} {r : Reply} → Step t i seat (cmd.Pin first second) r new → r ≡ Pinned
+step_set : {t : State} {i seat : ℕ} {first : Place} {second : Option Place} {r : Reply} {new : State}
+    → Step t i seat (cmd.Pin first second) r new → r ≡ Pinned
     → (pin : Pin) → pin_of new seat ≡ Some pin → IsOf pin first second
 step_set (serves s) h pin k = pins_set s h pin k
 step_set (wants w) h pin k = absurd (cc)
@@ -240,7 +244,7 @@ module _ (seat : ℕ) (es : List Entry) (e : Entry) (t new : State) (earlier_one
       by false k = agrees_other k
 
 agrees : (seat : ℕ) {es : List Entry} {t : State} → LeadsTo es t → Agrees seat es t
-agrees seat start pin p first second h = absurd (no_last h.last refl)
+agrees seat start = λ pin p first second h. absurd (no_last h.last refl)
 agrees seat (next {es = es} {e = e} {t = t} {new = new} l s) = agrees_next seat es e t new (agrees seat l) s
 
 -- LAW: a seat whose last Pin of these places was done, and that has a pin, has pinned these

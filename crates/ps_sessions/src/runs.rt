@@ -30,8 +30,12 @@ pub struct Responses {
 impl Model for Responses {
     ghost use Rattle.std.specs.Prelude.{List};
     ghost use Rattle.ps_sessions.specs.declared.runs.Response.{Response};
+    ghost use Rattle.std.specs.Coded.{codes};
+    ghost use Rattle.ps_journal.specs.contracts.replies.Reply as replies;
 
     ghost Value = { List Response };
+
+    ghost coded = { Prim.hlevel (codes, replies.the_row.coded) };
 
     ghost view = { λ s. s.list.items };
 }
@@ -61,8 +65,13 @@ pub struct Journal {
 impl Model for Journal {
     ghost use Rattle.std.specs.Prelude.{List};
     ghost use Rattle.ps_journal.specs.History.{Entry};
+    ghost use Rattle.std.specs.Coded.{codes};
+    ghost use Rattle.ps_journal.specs.contracts.commands.Cmd as commands;
+    ghost use Rattle.ps_journal.specs.contracts.replies.Reply as replies;
 
     ghost Value = { List Entry };
+
+    ghost coded = { Prim.hlevel (codes, commands.the_row.coded, replies.the_row.coded) };
 
     ghost view = { λ s. s.list.items };
 }
