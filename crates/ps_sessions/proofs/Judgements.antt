@@ -1,5 +1,5 @@
 -- The verdicts of a legal journal, in which the entries of each seat match commands, are justified.
-use Rattle.std.proofs.Common.{ℕ, ◌≡◌, Bool, true, false, cond, List, [], ◌∷◌, ◌++◌, length, Option, Some, refl, sym, ap, ◌∙◌, subst, append_assoc, append-nil}
+use Rattle.std.proofs.Common.{ℕ, ◌≡◌, Bool, true, false, cond, List, [], ◌∷◌, ◌++◌, Option, Some, refl, sym, ap, ◌∙◌, subst, append_assoc, append-nil}
 use Rattle.std.proofs.lemmas.Bool.{false≢true, eq-eqb}
 use Rattle.std.specs.declared.sync.Arc.{Arc}
 use Rattle.std.specs.declared.alloc.Global.{Global}
@@ -35,7 +35,7 @@ use Rattle.ps_history.specs.Inner.{IsInner}
 use Rattle.ps_history.specs.Questions.{EndsJudging, refused, ended, EndsSumming, sum_refused, sum_ended}
 use Rattle.ps_history.specs.Matching.{MatchesCommand, AnswersCommand, Matched, nothing, inner, answer}
 use Rattle.ps_history.proofs.Lists.{lasts, some_same}
-use Rattle.ps_history.proofs.Others.{LastStep, last_step, own_both}
+use Rattle.ps_history.proofs.Others.{last_step, own_both}
 use Rattle.ps_sessions.specs.Verdicts.{IsJust, AreJust}
 use Rattle.ps_sessions.proofs.PinLaws.{pins_named}
 

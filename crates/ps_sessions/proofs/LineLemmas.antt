@@ -4,7 +4,6 @@ use Rattle.std.specs.Prelude.{eqb, filter, map}
 use Rattle.std.proofs.lemmas.Bool.{eq-eqb, eqb-true}
 use Rattle.std.proofs.lemmas.List.{map-append}
 use Rattle.std.proofs.lemmas.List.Elements.{filter-append}
-use Rattle.ps_script.specs.declared.command.Command.{Command}
 use Rattle.ps_script.specs.declared.script.Line.{Line}
 use Rattle.ps_sessions.specs.Lines.{seat_of, commands_of}
 

@@ -1,10 +1,10 @@
 -- Turns of a seat that takes them alone, and what a command of them makes of the journal.
-use Rattle.std.proofs.Common.{ℕ, ◌≡◌, ◌≤◌, ◌<◌, true, List, [], ◌∷◌, ◌++◌, length, Option, Some, None, refl, sym, ap, ◌∙◌, subst, arith}
+use Rattle.std.proofs.Common.{ℕ, ◌≡◌, ◌≤◌, ◌<◌, true, [], ◌∷◌, ◌++◌, length, Option, Some, None, refl, ap, ◌∙◌, subst, arith}
 use Rattle.ps_desk.specs.Views.{entry}
 use Rattle.ps_script.specs.declared.script.Line.{Line}
 use Rattle.ps_journal.specs.declared.commands.Cmd.{Cmd}
 use Rattle.ps_journal.specs.declared.replies.Reply.{Reply}
-use Rattle.ps_journal.specs.History.{Entry, IsLegal, own_entries}
+use Rattle.ps_journal.specs.History.{IsLegal, own_entries}
 use Rattle.ps_history.specs.Inner.{Idles}
 use Rattle.ps_history.specs.Matching.{Answers}
 use Rattle.ps_history.specs.Bounds.{IsBounded}

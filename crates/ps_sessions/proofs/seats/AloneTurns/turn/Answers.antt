@@ -1,4 +1,4 @@
-use Rattle.std.proofs.Common.{◌≡◌, ◌<◌, length, ap, subst, arith}
+use Rattle.std.proofs.Common.{◌<◌, length, ap, subst, arith}
 use Rattle.ps_journal.specs.History.{IsLegal}
 use Rattle.ps_book.specs.Books.{entries}
 use Rattle.ps_sessions.proofs.TurnLemmas.{alone_turned, never_refused}
