@@ -30,7 +30,14 @@ impl<'a> Turns for Alone<'a> {
     ghost use Rattle.std.specs.Prelude.{true, None};
     ghost use Rattle.ps_calls.specs.Turns.{lent};
 
-    ghost view = { λ a. record { number = a.number; over = lent a.book.ghost_name; alone = true; rest = None; seen = entries a.book.now; refused = a.refused } };
+    ghost view = { λ a. record {
+      number = a.number;
+      over = lent a.book.ghost_name;
+      alone = true;
+      rest = None;
+      seen = entries a.book.now;
+      refused = a.refused;
+    } };
 
     fn number(&self) -> u32 {
         self.number
