@@ -1,0 +1,9 @@
+pub mod Owners
+pub mod Matchings
+pub mod LineLemmas
+pub mod Serving
+pub mod PinLaws
+pub mod Judgements
+pub mod Endings
+pub mod TurnLemmas
+pub mod Above
