@@ -1,5 +1,5 @@
 -- What an input of `run 0` comes to, before anything is written, and what is written of a run.
-use Rattle.std.specs.Prelude.{ℕ, ◌≡◌, ◌⊎◌, Option, List, ◌++◌, codes}
+use Rattle.std.specs.Prelude.{ℕ, ◌≡◌, ◌⊎◌, Option, List, [], ◌++◌, codes}
 use Rattle.ps_script.specs.declared.script.Line.{Line}
 use Rattle.ps_script.specs.declared.fault.ScriptFault.{ScriptFault}
 use Rattle.ps_reply.specs.Lines.{journal_text}
@@ -31,7 +31,7 @@ ending_status Done = 0
 ending_status (Full ticket) = 69
 
 abbrev pub last_line : Ending → List ℕ
-last_line Done = codes ""
+last_line Done = []
 last_line (Full ticket) = codes "full\n"
 
 abbrev pub run_text : Run → List ℕ

@@ -79,7 +79,7 @@ pub data IsRefusedAs (e : ScriptFault) (old new : Option (List ℕ)) (status : �
   refused : status ≡ 65 → new ≡ append_known old (text_of (answer_to e)) → IsRefusedAs e old new status
   unread : status ≡ 66 → IsRefusedAs e old new status
   unwritten : status ≡ 67 → IsRefusedAs e old new status
-  starved : status ≡ 70 → IsRefusedAs e old new status
+  wanting : status ≡ 70 → IsRefusedAs e old new status
 
 abbrev pub IsOneRefusal : Option (List ℕ) → Option (List ℕ) → Option (List ℕ) → ℕ → Type 0
 IsOneRefusal told old new status = IfSome told (λ bytes. (e : ScriptFault) → length bytes ≤ 16777216 → IsReading 1 bytes (Err e) → IsRefusedAs e old new status)
