@@ -1,6 +1,6 @@
 -- From what a script comes to, to how a call ends.
 use Rattle.std.proofs.Common.{◌≡◌, ◌≢◌, ℕ, refl, ap, sym, ◌∙◌, ◌+◌, ◌≤◌, ◌<◌, Option, Some, None, List, [], ◌∷◌, ◌++◌, length, subst, ◌⊎◌, inl, inr, append-nil, map, arith, Bool, true, false, Result, Ok, Err}
-use Rattle.std.specs.Prelude.{IfSome, codes, filter}
+use Rattle.std.specs.Prelude.{IfSome, codes, cond, filter}
 use Rattle.std.specs.Io.KnownBytes.{append_known}
 use Rattle.std.proofs.lemmas.List.Elements.{filter-append}
 use Rattle.ps_script.specs.declared.script.Line.{Line}
@@ -39,15 +39,15 @@ fault_yields bytes (fault.Block n) a k o q = inr (fault.Block n, record { reads 
 fault_yields bytes fault.Memory a k o q = inl q
 
 fault_hinders : (told : Option (List ℕ)) (reads reads' : ℕ) (bytes : List ℕ) (e : ScriptFault) → Gives told bytes → IsFaulty bytes e → Hinders told reads reads' (answer_to e)
-fault_hinders told reads reads' bytes (fault.Form n) g f = bytes, fault.Form n, g, f, refl
-fault_hinders told reads reads' bytes (fault.Session n) g f = bytes, fault.Session n, g, f, refl
-fault_hinders told reads reads' bytes (fault.Block n) g f = bytes, fault.Block n, g, f, refl
+fault_hinders told reads reads' bytes (fault.Form n) g f = (bytes, fault.Form n, g, f, refl)
+fault_hinders told reads reads' bytes (fault.Session n) g f = (bytes, fault.Session n, g, f, refl)
+fault_hinders told reads reads' bytes (fault.Block n) g f = (bytes, fault.Block n, g, f, refl)
 fault_hinders told reads reads' bytes fault.Memory g f = tt
 
 pub source_yields : (told : Option (List ℕ)) (reads reads' : ℕ) (bytes : List ℕ) (o : Outcome) → Gives told bytes → YieldsOf bytes o → Yields told reads reads' o
 source_yields told reads reads' bytes (Hindered a) g (inl q) = subst (Hinders told reads reads') (sym q) tt
 source_yields told reads reads' bytes (Hindered a) g (inr y) = subst (Hinders told reads reads') (sym y.2) (fault_hinders told reads reads' bytes y.0 g y.1)
-source_yields told reads reads' bytes (Served run) g y = bytes, g, y
+source_yields told reads reads' bytes (Served run) g y = (bytes, g, y)
 
 -- ---- what was written
 pub hindered_ends : (told : Option (List ℕ)) (reads reads' : ℕ) (old new : Option (List ℕ)) (f f' : ℕ) (journal : List Entry) (status : ℕ) (a : Answer)
@@ -66,7 +66,7 @@ none_ends es cs (inner {es = front} x m i) e =
     filter-append (λ y. ends_command y.cmd y.reply) front (x ∷ []) ∙ ap (λ l. l ++ filter (λ y. ends_command y.cmd y.reply) (x ∷ [])) (none_ends front cs m e) ∙ alone x i.inner
   where
     alone : (x : Entry) → ends_command x.cmd x.reply ≡ false → filter (λ y. ends_command y.cmd y.reply) (x ∷ []) ≡ []
-    alone x q = rw q in refl
+    alone x q = ap (λ b. cond b (x ∷ []) []) q
 none_ends es cs (answer {cs = before} x c m i) e = absurd (last_there before c e)
 
 run_holds : (lines : List Line) (run : Run) (r : IsRunOf lines run) → Holds r.served run.journal
@@ -96,13 +96,13 @@ run_ends told reads reads' old new f f' journal status run y j p = subst (λ (es
     by (inl w) = record {
         wanted = ending_status run.ending;
         text = run_text run;
-        comes = run_comes told reads reads' y.0 y.2 run run.ending y.1 y.3 y.4 refl;
+        comes = run_comes told reads reads' y.0 y.2.0 run run.ending y.1 y.2.1 y.2.2 refl;
         written = w;
       }
     by (inr w) = record { wanted = 70; text = codes "memory\n"; comes = starved refl refl; written = w }
 
 pub run_is_legal : (told : Option (List ℕ)) (reads reads' : ℕ) (journal : List Entry) (run : Run) → Yields told reads reads' (Served run) → journal ≡ run.journal → IsLegal journal
-run_is_legal told reads reads' journal run y j = subst IsLegal (sym j) y.4.legal
+run_is_legal told reads reads' journal run y j = subst IsLegal (sym j) y.2.2.legal
 
 -- ---- what a status tells
 other_number : {a b n : ℕ} → a ≡ n → a ≡ b → n ≡ b
@@ -178,17 +178,17 @@ ok_of lines = Ok (map asked_of lines)
 abbrev err_of : ScriptFault → Reads
 err_of e = Err e
 
-err_not_ok : {e : ScriptFault} {lines : List Line} → err_of e ≡ ok_of lines → ⊥
-err_not_ok q = cc
+err_not_ok : (e : ScriptFault) (lines : List Line) → err_of e ≡ ok_of lines → ⊥
+err_not_ok e lines q = cc
 
-same_fault : {e d : ScriptFault} → err_of e ≡ err_of d → e ≡ d
-same_fault q = cc
+same_fault : (e d : ScriptFault) → err_of e ≡ err_of d → e ≡ d
+same_fault e d q = cc
 
 moved : {bytes given : List ℕ} (e : ScriptFault) → given ≡ bytes → IsReading 1 bytes (Err e) → IsReading 1 given (Err e)
 moved e q r = subst (λ (b : List ℕ). IsReading 1 b (Err e)) (sym q) r
 
 no_script : (bytes : List ℕ) (e : ScriptFault) (given : List ℕ) (lines : List Line) → IsReading 1 bytes (Err e) → Gives (Some bytes) given → IsScript given lines → ⊥
-no_script bytes e given lines r g s = err_not_ok (s.only (Err e) (moved e g.all r))
+no_script bytes e given lines r g s = err_not_ok e lines (s.only (Err e) (moved e g.all r))
 
 answer_refused : (bytes : List ℕ) (reads reads' : ℕ) (old new : Option (List ℕ)) (status : ℕ) (e : ScriptFault) (a : Answer) → length bytes ≤ 16777216 → IsReading 1 bytes (Err e)
     → Hinders (Some bytes) reads reads' a → status ≡ status_of a → new ≡ append_known old (text_of a) → IsRefusedAs e old new status
@@ -196,7 +196,7 @@ answer_refused bytes reads reads' old new status e Read s r h k w = unread k
 answer_refused bytes reads reads' old new status e TooLong s r h k w = absurd (omega (arith, s, h))
 answer_refused bytes reads reads' old new status e Memory s r h k w = wanting k
 answer_refused bytes reads reads' old new status e (Refused why line column) s r h k w =
-    let same : e ≡ h.1 = same_fault (h.3.only (Err e) (moved e h.2.all r)) in
+    let same : e ≡ h.1 = same_fault e h.1 (h.3.only (Err e) (moved e h.2.all r)) in
     refused k (w ∙ ap (λ (x : Answer). append_known old (text_of x)) (h.4 ∙ ap answer_to (sym same)))
 answer_refused bytes reads reads' old new status e Yes s r h k w = absurd h
 answer_refused bytes reads reads' old new status e (Proof d) s r h k w = absurd h
