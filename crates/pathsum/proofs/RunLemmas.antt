@@ -1,6 +1,6 @@
 -- From what a script comes to, to how a call ends.
 use Rattle.std.proofs.Common.{◌≡◌, ◌≢◌, ℕ, refl, ap, sym, ◌∙◌, ◌+◌, ◌≤◌, ◌<◌, Option, Some, None, List, [], ◌∷◌, ◌++◌, length, subst, ◌⊎◌, inl, inr, append-nil, map, arith, Bool, true, false, Result, Ok, Err}
-use Rattle.std.specs.Prelude.{IfSome, codes, cond, filter}
+use Rattle.std.specs.Prelude.{IfSome, All, codes, cond, filter}
 use Rattle.std.specs.Io.KnownBytes.{append_known}
 use Rattle.std.proofs.lemmas.List.Elements.{filter-append}
 use Rattle.ps_script.specs.declared.script.Line.{Line}
@@ -12,12 +12,13 @@ use Rattle.ps_journal.specs.History.{Entry, IsLegal, nothing_is_legal, own_entri
 use Rattle.ps_history.specs.Inner.{IsInner}
 use Rattle.ps_history.specs.Matching.{Matched, nothing, inner, answer}
 use Rattle.ps_history.proofs.Lists.{last_there}
-use Rattle.ps_reply.specs.Lines.{journal_text}
+use Rattle.ps_reply.specs.Lines.{journal_text, IsOfSession}
 use Rattle.ps_sessions.specs.declared.runs.Ending.{Ending}
 use Rattle.ps_sessions.specs.declared.runs.Ending.TheVariants as ending
 use Rattle.ps_sessions.specs.declared.runs.Run.{Run}
 use Rattle.ps_sessions.specs.Lines.{commands_of}
 use Rattle.ps_sessions.specs.Runs.{IsRunOf}
+use Rattle.ps_sessions.proofs.Above.{of_sessions}
 use Rattle.pathsum.specs.declared.answer.Answer.{Answer}
 use Rattle.pathsum.specs.declared.answer.Answer.TheVariants.{Yes, Proof, YesPhase, No, NoPair, NoBehind, Stuck, Passed, Accepted, Rejected, Left, Refused, Words, Read, TooLong, Memory}
 use Rattle.pathsum.specs.declared.refusals.Refusal.{Refusal}
@@ -28,7 +29,7 @@ use Rattle.pathsum.specs.Answers.{status_of, text_of}
 use Rattle.pathsum.specs.Ended.{Writes, whole, failed}
 use Rattle.pathsum.specs.Scripts.{Gives, IsReadOnlyAs, IsScript, IsFaulty, answer_to}
 use Rattle.pathsum.specs.Runs.{Holds, Headline, CutShort, Hinders, Comes, hindered, starved, done, full, RunEnds, IsOneRefusal, IsRefusedAs, refused, unread, unwritten, wanting}
-use Rattle.pathsum.specs.Outcomes.{YieldsOf, Yields, ending_status, last_line, run_text, PrintsRun}
+use Rattle.pathsum.specs.Outcomes.{YieldsOf, YieldsRun, Yields, ending_status, last_line, run_text, PrintsRun}
 
 -- ---- what bytes come to
 -- a fault of the bytes is answered by it, and want of memory by that
@@ -89,7 +90,7 @@ run_comes told reads reads' bytes lines run (ending.Full ticket) g s r e =
       (ap (λ (x : Ending). journal_text run.journal ++ last_line x) e)
 
 pub run_ends : (told : Option (List ℕ)) (reads reads' : ℕ) (old new : Option (List ℕ)) (f f' : ℕ) (journal : List Entry) (status : ℕ) (run : Run)
-    → Yields told reads reads' (Served run) → journal ≡ run.journal → PrintsRun run old new f f' status → RunEnds told reads reads' old new f f' journal status
+    → YieldsRun told run → journal ≡ run.journal → PrintsRun run old new f f' status → RunEnds told reads reads' old new f f' journal status
 run_ends told reads reads' old new f f' journal status run y j p = subst (λ (es : List Entry). RunEnds told reads reads' old new f f' es status) (sym j) (by p)
   where
     by : PrintsRun run old new f f' status → RunEnds told reads reads' old new f f' run.journal status
@@ -101,8 +102,11 @@ run_ends told reads reads' old new f f' journal status run y j p = subst (λ (es
       }
     by (inr w) = record { wanted = 70; text = codes "memory\n"; comes = starved refl refl; written = w }
 
-pub run_is_legal : (told : Option (List ℕ)) (reads reads' : ℕ) (journal : List Entry) (run : Run) → Yields told reads reads' (Served run) → journal ≡ run.journal → IsLegal journal
-run_is_legal told reads reads' journal run y j = subst IsLegal (sym j) y.2.2.legal
+pub run_is_legal : (told : Option (List ℕ)) (journal : List Entry) (run : Run) → YieldsRun told run → journal ≡ run.journal → IsLegal journal
+run_is_legal told journal run y j = subst IsLegal (sym j) y.2.2.legal
+
+pub run_of_sessions : (told : Option (List ℕ)) (run : Run) → YieldsRun told run → All IsOfSession run.journal
+run_of_sessions told run y = of_sessions y.2.0 run y.2.2
 
 -- ---- what a status tells
 other_number : {a b n : ℕ} → a ≡ n → a ≡ b → n ≡ b

@@ -20,10 +20,14 @@ abbrev pub YieldsOf : List ℕ → Outcome → Type 0
 YieldsOf bytes (Hindered answer) = (answer ≡ Memory) ⊎ ((e : ScriptFault) × IsFaulty bytes e × (answer ≡ answer_to e))
 YieldsOf bytes (Served run) = (lines : List Line) × IsScript bytes lines × IsRunOf lines run
 
+-- what a source gives is the script of this run
+abbrev pub YieldsRun : Option (List ℕ) → Run → Type 0
+YieldsRun told run = (bytes : List ℕ) × Gives told bytes × YieldsOf bytes (Served run)
+
 -- what a source gives comes to this
 abbrev pub Yields : Option (List ℕ) → ℕ → ℕ → Outcome → Type 0
 Yields told reads reads' (Hindered answer) = Hinders told reads reads' answer
-Yields told reads reads' (Served run) = (bytes : List ℕ) × Gives told bytes × YieldsOf bytes (Served run)
+Yields told reads reads' (Served run) = YieldsRun told run
 
 -- ---- what is written of a run
 abbrev pub ending_status : Ending → ℕ

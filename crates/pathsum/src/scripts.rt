@@ -94,6 +94,7 @@ fn refused_at(why: Refusal, line: u32) -> Answer
 
 // Writes the replies of a run, and behind them the line `full` where a command has none.
 fn print_run<W: Sink>(alloc: Global, sink: &mut W, run: Run) -> Ended
+    requires { All IsOfSession run.journal }
     ensures written { PrintsRun run (W.held sink.old) (W.held sink.new) (W.faults sink.old) (W.faults sink.new) result.status }
     ensures journal { result.journal ≡ run.journal }
 {
@@ -106,6 +107,7 @@ fn print_run<W: Sink>(alloc: Global, sink: &mut W, run: Run) -> Ended
 
 // The same, with the status alone: 0 or 69, or 70 where memory was wanting, or 67 where the sink failed.
 fn print_replies<W: Sink>(alloc: Global, sink: &mut W, run: &Run) -> u8
+    requires { All IsOfSession run.now.journal }
     ensures { PrintsRun run.now (W.held sink.old) (W.held sink.new) (W.faults sink.old) (W.faults sink.new) result }
 {
     match replies(alloc, run) {
