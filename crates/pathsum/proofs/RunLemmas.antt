@@ -72,22 +72,22 @@ none_ends es cs (answer {cs = before} x c m i) e = absurd (last_there before c e
 
 run_holds : (lines : List Line) (run : Run) (r : IsRunOf lines run) → Holds r.served run.journal
 run_holds lines run r = record {
-    legal = r.legal;
-    each = r.matched;
-    others = λ seat e. none_ends (own_entries seat run.journal) (commands_of seat r.served) (r.matched seat) e;
-    just = r.just;
-  }
+  legal = r.legal;
+  each = r.matched;
+  others = λ seat e. none_ends (own_entries seat run.journal) (commands_of seat r.served) (r.matched seat) e;
+  just = r.just;
+}
 
 run_comes : (told : Option (List ℕ)) (reads reads' : ℕ) (bytes : List ℕ) (lines : List Line) (run : Run) (x : Ending) → Gives told bytes → IsScript bytes lines
     → IsRunOf lines run → run.ending ≡ x → Comes told reads reads' run.journal (ending_status run.ending) (run_text run)
 run_comes told reads reads' bytes lines run ending.Done g s r e =
     let all : r.served ≡ lines = sym (r.split ∙ ap (λ l. r.served ++ l) (r.complete e) ∙ append-nil r.served) in
     done bytes lines g s (subst (λ (l : List Line). Holds l run.journal) all (run_holds lines run r)) (ap ending_status e)
-      (ap (λ (x : Ending). journal_text run.journal ++ last_line x) e ∙ append-nil (journal_text run.journal))
+    (ap (λ (x : Ending). journal_text run.journal ++ last_line x) e ∙ append-nil (journal_text run.journal))
 run_comes told reads reads' bytes lines run (ending.Full ticket) g s r e =
     let cut = r.cut ticket e in
     full bytes r.served r.left g (subst (IsScript bytes) r.split s) cut.some_left (run_holds lines run r) cut.full (ap ending_status e)
-      (ap (λ (x : Ending). journal_text run.journal ++ last_line x) e)
+    (ap (λ (x : Ending). journal_text run.journal ++ last_line x) e)
 
 pub run_ends : (told : Option (List ℕ)) (reads reads' : ℕ) (old new : Option (List ℕ)) (f f' : ℕ) (journal : List Entry) (status : ℕ) (run : Run)
     → YieldsRun told run → journal ≡ run.journal → PrintsRun run old new f f' status → RunEnds told reads reads' old new f f' journal status
@@ -95,11 +95,11 @@ run_ends told reads reads' old new f f' journal status run y j p = subst (λ (es
   where
     by : PrintsRun run old new f f' status → RunEnds told reads reads' old new f f' run.journal status
     by (inl w) = record {
-        wanted = ending_status run.ending;
-        text = run_text run;
-        comes = run_comes told reads reads' y.0 y.2.0 run run.ending y.1 y.2.1 y.2.2 refl;
-        written = w;
-      }
+      wanted = ending_status run.ending;
+      text = run_text run;
+      comes = run_comes told reads reads' y.0 y.2.0 run run.ending y.1 y.2.1 y.2.2 refl;
+      written = w;
+    }
     by (inr w) = record { wanted = 70; text = codes "memory\n"; comes = starved refl refl; written = w }
 
 pub run_is_legal : (told : Option (List ℕ)) (journal : List Entry) (run : Run) → YieldsRun told run → journal ≡ run.journal → IsLegal journal
@@ -157,6 +157,7 @@ headline_of told reads reads' old new f f' journal status r z = by r.wanted r.te
     from n t (starved w x) e k = absurd (omega (arith, w, e))
     from n t (done bytes lines g s h w x) e k = record { bytes = bytes; lines = lines; given = g; script = s; holds = h; written = k ∙ ap (append_known old) x }
     from n t (full bytes served left g s l h c w x) e k = absurd (omega (arith, w, e))
+
     by : (n : ℕ) (t : List ℕ) → Comes told reads reads' journal n t → Writes old new f f' t n status → Headline told old new journal
     by n t c (whole k e) = from n t c (other_number e z) k
     by n t c (failed p q e) = absurd (omega (arith, e, z))
@@ -171,6 +172,7 @@ cut_short_of told reads reads' old new f f' journal status r z = by r.wanted r.t
     from n t (done bytes lines g s h w x) e k = absurd (omega (arith, w, e))
     from n t (full bytes served left g s l h c w x) e k =
         record { bytes = bytes; served = served; left = left; given = g; script = s; some_left = l; holds = h; full = c; written = k ∙ ap (append_known old) x }
+
     by : (n : ℕ) (t : List ℕ) → Comes told reads reads' journal n t → Writes old new f f' t n status → CutShort told old new journal
     by n t c (whole k e) = from n t c (other_number e z) k
     by n t c (failed p q e) = absurd (omega (arith, e, z))
@@ -226,6 +228,7 @@ one_refusal_of (Some bytes) reads reads' old new f f' journal status r = λ e s 
     from e s d n t (starved w x) k y = wanting (k ∙ w)
     from e s d n t (done given lines g p h w x) k y = absurd (no_script bytes e given lines d g p)
     from e s d n t (full given served left g p l h c w x) k y = absurd (no_script bytes e given (served ++ left) d g p)
+
     by : (e : ScriptFault) → length bytes ≤ 16777216 → IsReading 1 bytes (Err e) → (n : ℕ) (t : List ℕ) → Comes (Some bytes) reads reads' journal n t
         → Writes old new f f' t n status → IsRefusedAs e old new status
     by e s d n t c (whole y k) = from e s d n t c k y

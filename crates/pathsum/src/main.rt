@@ -27,8 +27,8 @@ pub use calls::{prove_run, replay_run, same_local_run, same_phase_run, same_run}
 use commands::{Command, command_of, is_run};
 pub use ended::Ended;
 use print::print;
-pub use scripts::script_run;
 use ps_io::{Gate, OpenGate, Sink, Source, StdSink, StdSource};
+pub use scripts::script_run;
 use std::alloc::{AllocError, Global};
 use std::env;
 use std::io::ErrorKind;
@@ -44,18 +44,25 @@ pub fn run<S: Source, W: Sink, G: Gate + Sync>(
     gate: &G,
 ) -> Ended
     // Of all words but `run 0`: what an answer prints that claims this is written, and the status is that answer's.
-    ensures ends { ¬ (IsRun (map string_bytes words.now)) → Ends (Answers (map string_bytes words.now) (S.remaining source.old) (S.faults source.old) (S.faults source.new)) (W.held sink.old) (W.held sink.new) (W.faults sink.old) (W.faults sink.new) result.status }
+    ensures ends { ¬ (IsRun (map string_bytes words.now))
+        → Ends (Answers (map string_bytes words.now) (S.remaining source.old) (S.faults source.old) (S.faults source.new))
+        (W.held sink.old) (W.held sink.new) (W.faults sink.old) (W.faults sink.new) result.status }
     ensures one_answer { IsOneAnswer (map string_bytes words.now) (S.remaining source.old) }
     ensures unserved { ¬ (IsRun (map string_bytes words.now)) → result.journal ≡ [] }
 
     // Of `run 0`: however it ends, what is written, of which with status 67 a prefix, and what the journal is.
-    ensures run_ends { IsRun (map string_bytes words.now) → RunEnds (S.remaining source.old) (S.faults source.old) (S.faults source.new) (W.held sink.old) (W.held sink.new) (W.faults sink.old) (W.faults sink.new) result.journal result.status }
+    ensures run_ends { IsRun (map string_bytes words.now)
+        → RunEnds (S.remaining source.old) (S.faults source.old) (S.faults source.new)
+        (W.held sink.old) (W.held sink.new) (W.faults sink.old) (W.faults sink.new) result.journal result.status }
     // With status 0 all commands of the script are answered, and their replies are written.
-    ensures headline { IsRun (map string_bytes words.now) → result.status ≡ 0 → Headline (S.remaining source.old) (W.held sink.old) (W.held sink.new) result.journal }
+    ensures headline { IsRun (map string_bytes words.now) → result.status ≡ 0
+        → Headline (S.remaining source.old) (W.held sink.old) (W.held sink.new) result.journal }
     // With status 69 those before one of them are, and the line `full` is written behind their replies.
-    ensures cut_short { IsRun (map string_bytes words.now) → result.status ≡ 69 → CutShort (S.remaining source.old) (W.held sink.old) (W.held sink.new) result.journal }
+    ensures cut_short { IsRun (map string_bytes words.now) → result.status ≡ 69
+        → CutShort (S.remaining source.old) (W.held sink.old) (W.held sink.new) result.journal }
     // A script with a fault is refused, with that fault.
-    ensures one_refusal { IsRun (map string_bytes words.now) → IsOneRefusal (S.remaining source.old) (W.held sink.old) (W.held sink.new) result.status }
+    ensures one_refusal { IsRun (map string_bytes words.now)
+        → IsOneRefusal (S.remaining source.old) (W.held sink.old) (W.held sink.new) result.status }
 
     // Whatever the words and the status, the journal is a legal history.
     ensures legal { IsLegal result.journal }
@@ -74,7 +81,8 @@ fn command_run<S: Source, W: Sink>(
     source: &mut S,
     sink: &mut W,
 ) -> Ended
-    ensures ends { Ends (Answers (map string_bytes words.now) (S.remaining source.old) (S.faults source.old) (S.faults source.new)) (W.held sink.old) (W.held sink.new) (W.faults sink.old) (W.faults sink.new) result.status }
+    ensures ends { Ends (Answers (map string_bytes words.now) (S.remaining source.old) (S.faults source.old) (S.faults source.new))
+        (W.held sink.old) (W.held sink.new) (W.faults sink.old) (W.faults sink.new) result.status }
     ensures unserved { result.journal ≡ [] }
 {
     match command_of(words) {

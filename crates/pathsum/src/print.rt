@@ -8,7 +8,8 @@ use ps_io::{Failed, Sink, write_all};
 use ps_sessions::Journal;
 use std::alloc::{AllocError, Global};
 
-/// Writes what the answer prints, of a call that served no script. Where memory for that is wanting, writes the line of that.
+/// Writes what the answer prints, for a call that served no script. Where memory for that is wanting, writes the line
+/// of that.
 pub fn print<W: Sink>(alloc: Global, sink: &mut W, answer: &Answer) -> Ended
     ensures written { Writes (W.held sink.old) (W.held sink.new) (W.faults sink.old) (W.faults sink.new) (text_of answer.now) (status_of answer.now) result.status
         ⊎ Writes (W.held sink.old) (W.held sink.new) (W.faults sink.old) (W.faults sink.new) (text_of Answer.Memory) 70 result.status }

@@ -34,7 +34,8 @@ pub fn script_run<S: Source, W: Sink, G: Gate>(
     sink: &mut W,
     gate: &G,
 ) -> Ended
-    ensures ends { RunEnds (S.remaining source.old) (S.faults source.old) (S.faults source.new) (W.held sink.old) (W.held sink.new) (W.faults sink.old) (W.faults sink.new) result.journal result.status }
+    ensures ends { RunEnds (S.remaining source.old) (S.faults source.old) (S.faults source.new)
+        (W.held sink.old) (W.held sink.new) (W.faults sink.old) (W.faults sink.new) result.journal result.status }
     ensures legal { IsLegal result.journal }
 {
     match read_and_serve(alloc, source, gate) {
