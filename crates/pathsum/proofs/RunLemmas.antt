@@ -1,6 +1,6 @@
 -- From what a script comes to, to how a call ends.
-use Rattle.std.proofs.Common.{◌≡◌, ◌≢◌, ℕ, refl, ap, sym, ◌∙◌, ◌+◌, ◌≤◌, ◌<◌, Option, Some, None, List, [], ◌∷◌, ◌++◌, length, subst, ◌⊎◌, inl, inr, append-nil, map, arith, Bool, true, false, Result, Ok, Err}
-use Rattle.std.specs.Prelude.{IfSome, All, codes, cond, filter}
+use Rattle.std.proofs.Common.{◌≡◌, ℕ, refl, ap, sym, ◌∙◌, ◌≤◌, Option, Some, None, List, [], ◌∷◌, ◌++◌, length, subst, ◌⊎◌, inl, inr, append-nil, map, arith, Ok, Err}
+use Rattle.std.specs.Prelude.{All, codes, cond, filter}
 use Rattle.std.specs.Io.KnownBytes.{append_known}
 use Rattle.std.proofs.lemmas.List.Elements.{filter-append}
 use Rattle.ps_script.specs.declared.script.Line.{Line}
@@ -9,7 +9,6 @@ use Rattle.ps_script.specs.declared.fault.ScriptFault.{ScriptFault}
 use Rattle.ps_script.specs.declared.fault.ScriptFault.TheVariants as fault
 use Rattle.ps_script.specs.Reading.{Read as Reads, IsReading, Known, Only, asked_of}
 use Rattle.ps_journal.specs.History.{Entry, IsLegal, nothing_is_legal, own_entries, session_entries, ends_command}
-use Rattle.ps_history.specs.Inner.{IsInner}
 use Rattle.ps_history.specs.Matching.{Matched, nothing, inner, answer}
 use Rattle.ps_history.proofs.Lists.{last_there}
 use Rattle.ps_reply.specs.Lines.{journal_text, IsOfSession}
@@ -21,13 +20,11 @@ use Rattle.ps_sessions.specs.Runs.{IsRunOf}
 use Rattle.ps_sessions.proofs.Above.{of_sessions}
 use Rattle.pathsum.specs.declared.answer.Answer.{Answer}
 use Rattle.pathsum.specs.declared.answer.Answer.TheVariants.{Yes, Proof, YesPhase, No, NoPair, NoBehind, Stuck, Passed, Accepted, Rejected, Left, Refused, Words, Read, TooLong, Memory}
-use Rattle.pathsum.specs.declared.refusals.Refusal.{Refusal}
-use Rattle.pathsum.specs.declared.refusals.Refusal.TheVariants.{Form, Session, Block}
 use Rattle.pathsum.specs.declared.scripts.Outcome.{Outcome}
 use Rattle.pathsum.specs.declared.scripts.Outcome.TheVariants.{Hindered, Served}
 use Rattle.pathsum.specs.Answers.{status_of, text_of}
 use Rattle.pathsum.specs.Ended.{Writes, whole, failed}
-use Rattle.pathsum.specs.Scripts.{Gives, IsReadOnlyAs, IsScript, IsFaulty, answer_to}
+use Rattle.pathsum.specs.Scripts.{Gives, IsScript, IsFaulty, answer_to}
 use Rattle.pathsum.specs.Runs.{Holds, Headline, CutShort, Hinders, Comes, hindered, starved, done, full, RunEnds, IsOneRefusal, IsRefusedAs, refused, unread, unwritten, wanting}
 use Rattle.pathsum.specs.Outcomes.{YieldsOf, YieldsRun, Yields, ending_status, last_line, run_text, PrintsRun}
 
@@ -83,11 +80,11 @@ module _ (told : Option (List ℕ)) where
     run_comes bytes lines run ending.Done g s r e =
         let all : r.served ≡ lines = sym (r.split ∙ ap (λ l. r.served ++ l) (r.complete e) ∙ append-nil r.served) in
         done bytes lines g s (subst (λ (l : List Line). Holds l run.journal) all (run_holds lines run r)) (ap ending_status e)
-          (ap (λ (x : Ending). journal_text run.journal ++ last_line x) e ∙ append-nil (journal_text run.journal))
+        (ap (λ (x : Ending). journal_text run.journal ++ last_line x) e ∙ append-nil (journal_text run.journal))
     run_comes bytes lines run (ending.Full ticket) g s r e =
         let cut = r.cut ticket e in
         full bytes r.served r.left g (subst (IsScript bytes) r.split s) cut.some_left (run_holds lines run r) cut.full (ap ending_status e)
-          (ap (λ (x : Ending). journal_text run.journal ++ last_line x) e)
+        (ap (λ (x : Ending). journal_text run.journal ++ last_line x) e)
 
     -- ---- statuses that no answer has where no command was done
     not_done : (a : Answer) → Hinders told reads reads' a → status_of a ≡ 0 → ⊥

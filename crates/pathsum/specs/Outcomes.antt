@@ -7,7 +7,6 @@ use Rattle.ps_sessions.specs.declared.runs.Ending.{Ending}
 use Rattle.ps_sessions.specs.declared.runs.Ending.TheVariants.{Done, Full}
 use Rattle.ps_sessions.specs.declared.runs.Run.{Run}
 use Rattle.ps_sessions.specs.Runs.{IsRunOf}
-use Rattle.pathsum.specs.declared.answer.Answer.{Answer}
 use Rattle.pathsum.specs.declared.answer.Answer.TheVariants.{Memory}
 use Rattle.pathsum.specs.declared.scripts.Outcome.{Outcome}
 use Rattle.pathsum.specs.declared.scripts.Outcome.TheVariants.{Hindered, Served}
