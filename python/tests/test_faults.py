@@ -111,7 +111,8 @@ class Faults(unittest.TestCase):
 class Documents(unittest.TestCase):
     def test_each_name_is_explained(self):
         """Each name that the program can print stands in docs/FAULTS.md and has a sentence."""
-        names = re.findall(r'codes "(\w+)"', (ROOT / "crates/pathsum/specs/Names.antt").read_text())
+        sources = [(ROOT / f"crates/{crate}/specs/Names.antt").read_text() for crate in ("ps_reply", "pathsum")]
+        names = re.findall(r'codes "(\w+)"', "".join(sources))
         self.assertGreaterEqual(len(names), 24)
         document = (ROOT / "docs/FAULTS.md").read_text()
         for name in names:

@@ -11,7 +11,7 @@ use Rattle.ps_reach.specs.declared.mode.Mode.TheVariants.{Exact, Phase}
 use Rattle.ps_reach.specs.Overruns.{Overrun}
 use Rattle.ps_reach.specs.Runs.{run_of}
 use Rattle.ps_reach.specs.Fillings.{Outcome, Fills, kept, passed}
-use Rattle.ps_reach.specs.Findings.{Finding, yes, no, stuck, limit, Compares, first_limit}
+use Rattle.ps_reach.specs.Findings.{Finding, yes, limit, Compares, first_limit}
 use Rattle.ps_reach.proofs.FillsOnce.{fills_only}
 use Rattle.ps_reach.proofs.Justifying.{compares_only}
 use Rattle.ps_normal.specs.Comparing.{Decides, PassesFirst, Settles, early, both as compared}
@@ -46,7 +46,7 @@ use Rattle.ps_local.specs.Windows.{IsUnknown}
 use Rattle.ps_local.proofs.Uniqueness.{cut_once}
 use Rattle.pathsum.specs.Local.{SaysBehind, plainly, behind, IsLocalVerdict}
 use Rattle.pathsum.specs.Proofs.{IsDerivation, Proves, derived, other, Echoes, accepted, rejected, left, IsReplay, Works}
-use Rattle.pathsum.specs.Ended.{Judges, lacking, refused, judged, Answers, IsOfInput, Agree, IsTurned, AreAlike, agree, turned, turned_back, IsOneAnswer}
+use Rattle.pathsum.specs.Ended.{Judges, lacking, refused, judged, Answers, IsOfInput, Agree, AreAlike, agree, turned, turned_back, IsOneAnswer}
 use Rattle.pathsum.proofs.Splitting.{parts_once, parts_or_lacks}
 use Rattle.pathsum.proofs.Placing.{place_once}
 

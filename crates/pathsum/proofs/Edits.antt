@@ -1,5 +1,5 @@
 -- From what is found of what is left of two lists of items to the answer.
-use Rattle.std.proofs.Common.{◌≡◌, ℕ, zero, ◌<◌, refl, ap, sym, ◌∙◌, subst, arith, List}
+use Rattle.std.proofs.Common.{◌≡◌, ℕ, refl, ap, sym, ◌∙◌, subst, arith, List}
 use Rattle.ps_prim.specs.declared.prims.Primitive.{Primitive as Prim}
 use Rattle.ps_prim.specs.Maps.{AllWithin}
 use Rattle.ps_reach.specs.declared.evidence.Evidence.{Evidence}
@@ -7,7 +7,7 @@ use Rattle.ps_reach.specs.declared.judged.Judged.{Judged}
 use Rattle.ps_reach.specs.declared.verdict.Verdict.{Verdict}
 use Rattle.ps_reach.specs.declared.verdict.Verdict.TheVariants as verdict
 use Rattle.ps_reach.specs.Runs.{run_of}
-use Rattle.ps_reach.specs.Findings.{Finding, no}
+use Rattle.ps_reach.specs.Findings.{no}
 use Rattle.ps_reach.specs.Judging.{finding_of}
 use Rattle.ps_normal.specs.declared.decision.Decision.{Decision}
 use Rattle.ps_normal.specs.declared.decision.Decision.TheVariants as decision

@@ -6,3 +6,4 @@ pub mod Splitting
 pub mod Verdicts
 pub mod PhaseLines
 pub mod Edits
+pub mod RunLemmas

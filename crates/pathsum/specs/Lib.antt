@@ -6,7 +6,10 @@ pub mod Inputs
 pub mod Judgements
 pub mod Local
 pub mod Names
+pub mod Outcomes
 pub mod Proofs
+pub mod Runs
+pub mod Scripts
 pub mod Splits
 pub mod Texts
 pub mod Verdicts

@@ -1,6 +1,6 @@
 //! The commands over a source and a sink.
 
-ghost use Rattle.std.specs.Prelude.{◌≤◌, length};
+ghost use Rattle.std.specs.Prelude.{◌≡◌, ◌≤◌, [], length};
 ghost use Rattle.pathsum.specs.Ended.{Deserves, Ends};
 ghost use Rattle.pathsum.specs.Judgements.{Judged, IsRefusal};
 
@@ -22,7 +22,8 @@ pub const LONGEST: u32 = 16_777_216;
 
 /// Reads two texts from the source, and writes whether they are one linear map.
 pub fn same_run<S: Source, W: Sink>(alloc: Global, source: &mut S, sink: &mut W) -> Ended
-    ensures { Ends (Deserves Command.Same (S.remaining source.old) (S.faults source.old) (S.faults source.new)) (W.held sink.old) (W.held sink.new) (W.faults sink.old) (W.faults sink.new) result.status }
+    ensures ends { Ends (Deserves Command.Same (S.remaining source.old) (S.faults source.old) (S.faults source.new)) (W.held sink.old) (W.held sink.new) (W.faults sink.old) (W.faults sink.new) result.status }
+    ensures unserved { result.journal ≡ [] }
 {
     let answer = answer(alloc, Command::Same, source);
     print(alloc, sink, &answer)
@@ -30,7 +31,8 @@ pub fn same_run<S: Source, W: Sink>(alloc: Global, source: &mut S, sink: &mut W)
 
 /// Reads two texts from the source, and writes whether they are one linear map up to a global phase.
 pub fn same_phase_run<S: Source, W: Sink>(alloc: Global, source: &mut S, sink: &mut W) -> Ended
-    ensures { Ends (Deserves Command.SamePhase (S.remaining source.old) (S.faults source.old) (S.faults source.new)) (W.held sink.old) (W.held sink.new) (W.faults sink.old) (W.faults sink.new) result.status }
+    ensures ends { Ends (Deserves Command.SamePhase (S.remaining source.old) (S.faults source.old) (S.faults source.new)) (W.held sink.old) (W.held sink.new) (W.faults sink.old) (W.faults sink.new) result.status }
+    ensures unserved { result.journal ≡ [] }
 {
     let answer = answer(alloc, Command::SamePhase, source);
     print(alloc, sink, &answer)
@@ -39,7 +41,8 @@ pub fn same_phase_run<S: Source, W: Sink>(alloc: Global, source: &mut S, sink: &
 /// Reads two texts from the source, and writes whether they are one linear map, as what is left of them
 /// where they part tells.
 pub fn same_local_run<S: Source, W: Sink>(alloc: Global, source: &mut S, sink: &mut W) -> Ended
-    ensures { Ends (Deserves Command.SameLocal (S.remaining source.old) (S.faults source.old) (S.faults source.new)) (W.held sink.old) (W.held sink.new) (W.faults sink.old) (W.faults sink.new) result.status }
+    ensures ends { Ends (Deserves Command.SameLocal (S.remaining source.old) (S.faults source.old) (S.faults source.new)) (W.held sink.old) (W.held sink.new) (W.faults sink.old) (W.faults sink.new) result.status }
+    ensures unserved { result.journal ≡ [] }
 {
     let answer = answer(alloc, Command::SameLocal, source);
     print(alloc, sink, &answer)
@@ -48,7 +51,8 @@ pub fn same_local_run<S: Source, W: Sink>(alloc: Global, source: &mut S, sink: &
 /// Reads two texts from the source, and writes a derivation that they are one linear map, or that they
 /// are not, or that it is unknown.
 pub fn prove_run<S: Source, W: Sink>(alloc: Global, source: &mut S, sink: &mut W) -> Ended
-    ensures { Ends (Deserves Command.Prove (S.remaining source.old) (S.faults source.old) (S.faults source.new)) (W.held sink.old) (W.held sink.new) (W.faults sink.old) (W.faults sink.new) result.status }
+    ensures ends { Ends (Deserves Command.Prove (S.remaining source.old) (S.faults source.old) (S.faults source.new)) (W.held sink.old) (W.held sink.new) (W.faults sink.old) (W.faults sink.new) result.status }
+    ensures unserved { result.journal ≡ [] }
 {
     let answer = answer(alloc, Command::Prove, source);
     print(alloc, sink, &answer)
@@ -57,7 +61,8 @@ pub fn prove_run<S: Source, W: Sink>(alloc: Global, source: &mut S, sink: &mut W
 /// Reads two texts and a derivation from the source, and writes whether the derivation shows that the
 /// two texts are one linear map.
 pub fn replay_run<S: Source, W: Sink>(alloc: Global, source: &mut S, sink: &mut W) -> Ended
-    ensures { Ends (Deserves Command.Replay (S.remaining source.old) (S.faults source.old) (S.faults source.new)) (W.held sink.old) (W.held sink.new) (W.faults sink.old) (W.faults sink.new) result.status }
+    ensures ends { Ends (Deserves Command.Replay (S.remaining source.old) (S.faults source.old) (S.faults source.new)) (W.held sink.old) (W.held sink.new) (W.faults sink.old) (W.faults sink.new) result.status }
+    ensures unserved { result.journal ≡ [] }
 {
     let answer = answer(alloc, Command::Replay, source);
     print(alloc, sink, &answer)

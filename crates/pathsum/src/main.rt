@@ -1,8 +1,11 @@
-//! Compares two quantum circuits.
+//! Compares two quantum circuits, and serves scripts of sessions that edit circuits and ask about them.
 #![tactic(auto)]
 
-ghost use Rattle.std.specs.Prelude.{map, string_bytes};
+ghost use Rattle.std.specs.Prelude.{◌≡◌, [], map, string_bytes};
+ghost use Rattle.ps_journal.specs.History.{IsLegal};
 ghost use Rattle.pathsum.specs.Ended.{Answers, Ends, IsOneAnswer};
+ghost use Rattle.pathsum.specs.Scripts.{IsRun};
+ghost use Rattle.pathsum.specs.Runs.{RunEnds, Headline, CutShort, IsOneRefusal};
 
 mod answer;
 mod calls;
@@ -13,6 +16,7 @@ mod pair;
 mod print;
 mod reading;
 mod refusals;
+mod scripts;
 mod splits;
 #[cfg(test)]
 mod tests;
@@ -20,10 +24,11 @@ mod verdict;
 
 use answer::Answer;
 pub use calls::{prove_run, replay_run, same_local_run, same_phase_run, same_run};
-use commands::{Command, command_of};
+use commands::{Command, command_of, is_run};
 pub use ended::Ended;
 use print::print;
 use ps_io::{Gate, OpenGate, Sink, Source, StdSink, StdSource};
+pub use scripts::script_run;
 use std::alloc::{AllocError, Global};
 use std::env;
 use std::io::ErrorKind;
@@ -36,10 +41,49 @@ pub fn run<S: Source, W: Sink, G: Gate + Sync>(
     words: &[String],
     source: &mut S,
     sink: &mut W,
-    _gate: &G,
+    gate: &G,
 ) -> Ended
-    ensures ends { Ends (Answers (map string_bytes words.now) (S.remaining source.old) (S.faults source.old) (S.faults source.new)) (W.held sink.old) (W.held sink.new) (W.faults sink.old) (W.faults sink.new) result.status }
+    // Of all words but `run 0`: what an answer prints that claims this is written, and the status is that answer's.
+    ensures ends { ¬ (IsRun (map string_bytes words.now))
+        → Ends (Answers (map string_bytes words.now) (S.remaining source.old) (S.faults source.old) (S.faults source.new))
+        (W.held sink.old) (W.held sink.new) (W.faults sink.old) (W.faults sink.new) result.status }
     ensures one_answer { IsOneAnswer (map string_bytes words.now) (S.remaining source.old) }
+    ensures unserved { ¬ (IsRun (map string_bytes words.now)) → result.journal ≡ [] }
+
+    // Of `run 0`: however it ends, what is written, of which with status 67 a prefix, and what the journal is.
+    ensures run_ends { IsRun (map string_bytes words.now)
+        → RunEnds (S.remaining source.old) (S.faults source.old) (S.faults source.new)
+        (W.held sink.old) (W.held sink.new) (W.faults sink.old) (W.faults sink.new) result.journal result.status }
+    // With status 0 all commands of the script are answered, and their replies are written.
+    ensures headline { IsRun (map string_bytes words.now) → result.status ≡ 0
+        → Headline (S.remaining source.old) (W.held sink.old) (W.held sink.new) result.journal }
+    // With status 69 those before one of them are, and the line `full` is written behind their replies.
+    ensures cut_short { IsRun (map string_bytes words.now) → result.status ≡ 69
+        → CutShort (S.remaining source.old) (W.held sink.old) (W.held sink.new) result.journal }
+    // A script with a fault is refused, with that fault.
+    ensures one_refusal { IsRun (map string_bytes words.now)
+        → IsOneRefusal (S.remaining source.old) (W.held sink.old) (W.held sink.new) result.status }
+
+    // Whatever the words and the status, the journal is a legal history.
+    ensures legal { IsLegal result.journal }
+{
+    if is_run(words) {
+        script_run(alloc, source, sink, gate)
+    } else {
+        command_run(alloc, words, source, sink)
+    }
+}
+
+// Does what the words ask of two circuits.
+fn command_run<S: Source, W: Sink>(
+    alloc: Global,
+    words: &[String],
+    source: &mut S,
+    sink: &mut W,
+) -> Ended
+    ensures ends { Ends (Answers (map string_bytes words.now) (S.remaining source.old) (S.faults source.old) (S.faults source.new))
+        (W.held sink.old) (W.held sink.new) (W.faults sink.old) (W.faults sink.new) result.status }
+    ensures unserved { result.journal ≡ [] }
 {
     match command_of(words) {
         None => print(alloc, sink, &Answer::Words),

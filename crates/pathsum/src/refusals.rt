@@ -1,8 +1,9 @@
 //! Why an input is refused.
 
 ghost use Rattle.std.specs.Prelude.{◌≡◌};
-ghost use Rattle.pathsum.specs.Names.{fault_name, refusal_name};
+ghost use Rattle.pathsum.specs.Names.{refusal_name};
 
+use ps_reply::fault_name;
 use qasm_expand::FaultName;
 
 /// Why an input is refused.
@@ -14,6 +15,12 @@ pub enum Refusal {
     Separator,
     /// The two texts have different numbers of qubits.
     Widths,
+    /// A line of a script is of no form.
+    Form,
+    /// A line of a script is right but for the number of its session.
+    Session,
+    /// A line of a script is right, and its block has no end.
+    Block,
 }
 
 impl Refusal {
@@ -22,39 +29,12 @@ impl Refusal {
         ensures { result.now ≡ refusal_name self }
     {
         match self {
-            Refusal::Text(fault) => name_of(fault),
+            Refusal::Text(fault) => fault_name(fault),
             Refusal::Separator => "Separator",
             Refusal::Widths => "Widths",
+            Refusal::Form => "Form",
+            Refusal::Session => "Session",
+            Refusal::Block => "Block",
         }
-    }
-}
-
-// The name of a fault of a text.
-fn name_of(fault: FaultName) -> &'static str
-    ensures { result.now ≡ fault_name fault }
-{
-    match fault {
-        FaultName::BadByte => "BadByte",
-        FaultName::BadNumber => "BadNumber",
-        FaultName::OpenString => "OpenString",
-        FaultName::Version => "Version",
-        FaultName::Syntax => "Syntax",
-        FaultName::NotUnitary => "NotUnitary",
-        FaultName::Include => "Include",
-        FaultName::Opaque => "Opaque",
-        FaultName::Deep => "Deep",
-        FaultName::NotDyadic => "NotDyadic",
-        FaultName::AngleRange => "AngleRange",
-        FaultName::NoParameter => "NoParameter",
-        FaultName::Function => "Function",
-        FaultName::ByZero => "ByZero",
-        FaultName::Unknown => "Unknown",
-        FaultName::Arity => "Arity",
-        FaultName::Redeclared => "Redeclared",
-        FaultName::Range => "Range",
-        FaultName::RepeatedQubit => "RepeatedQubit",
-        FaultName::Sizes => "Sizes",
-        FaultName::TooMany => "TooMany",
-        FaultName::NoQubits => "NoQubits",
     }
 }

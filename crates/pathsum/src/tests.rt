@@ -29,7 +29,7 @@ fn ends_so(alloc: Global, row: &Row) -> Result<bool, AllocError> {
         writes.push(call)?;
     }
     let mut source = MemorySource::new(row.input.to_vec(alloc)?, 11, reads);
-    let mut sink = MemorySink::new(vec![in alloc; 0; 256]?, writes);
+    let mut sink = MemorySink::new(vec![in alloc; 0; 512]?, writes);
     let ended = run(alloc, &words, &mut source, &mut sink, &OpenGate);
     Ok(ended.status == row.status && sink.held() == row.printed)
 }
@@ -450,6 +450,10 @@ fn words_and_faults_of_the_outside_are_told(rt: HostRuntime) -> Result<(), Fail>
         told(&["local"], TWICE, 64, b"words\n"),
         told(&["Prove"], TWICE, 64, b"words\n"),
         told(&["gen", "1", "17", "3"], TWICE, 64, b"words\n"),
+        told(&["run"], b"", 64, b"words\n"),
+        told(&["run", "00"], b"", 64, b"words\n"),
+        told(&["run", "0", "0"], b"", 64, b"words\n"),
+        told(&["run", "17"], b"", 64, b"words\n"),
     ];
     for row in &rows {
         assert!(rt; ends_so(rt.alloc(), row)?);
@@ -464,5 +468,89 @@ fn long_input_is_told(rt: HostRuntime) -> Result<(), Fail> {
     assert!(rt; ends_so(alloc, &same(&longest, 65, b"input Separator 1:16777217\n"))?);
     let longer = vec![in alloc; b' '; 16_777_217]?;
     assert!(rt; ends_so(alloc, &same(&longer, 68, b"too long\n"))?);
+    Ok(())
+}
+
+// A row of `run 0` without faults.
+fn script<'a>(input: &'a [u8], status: u8, printed: &'a [u8]) -> Row<'a> {
+    told(&["run", "0"], input, status, printed)
+}
+
+const PLUS: &str =
+    "0 open a\nOPENQASM 2.0;\ninclude \"qelib1.inc\";\nqreg q[1];\nh q[0];\nh q[0];\n.\n0 open b\nOPENQASM 2.0;\nqreg q[1];\n.\n";
+
+// Circuits are opened, compared, summed and edited; a proof is told with its lines.
+#[test]
+fn scripts_are_served(rt: HostRuntime) -> Result<(), Fail> {
+    let alloc = rt.alloc();
+    let asked = format!(in alloc;
+        "{PLUS}0 ask a 1 b 1\n0 sum a 1\n0 prove a 1 b 1\n0 open c\nOPENQASM 2.0;\nqreg q[2];\n.\n0 ask a 1 c 1\n"
+    )?;
+    let answered = format!(in alloc;
+        "0 opened 1 missing 1\n0 opened 1 missing 0\n0 yes\n0 sum k=0 m=0 P=0 f=x0\n0 proof 11\n{DERIVATION}0 opened 1 missing 0\n0 widths 1 2\n"
+    )?;
+    assert!(rt; ends_so(alloc, &script(asked.as_bytes(), 0, answered.as_bytes()))?);
+    let turned = format!(in alloc;
+        "{PLUS}4 ask phase a 1 b 1\n15 splice a 1 2 2\nt q[0];\n.\n4 ask a 1 a 2\n15 retire a 1\n4 ask a 1 a 2\n"
+    )?;
+    assert!(rt;
+        ends_so(
+            alloc,
+            &script(
+                turned.as_bytes(),
+                0,
+                b"0 opened 1 missing 1\n0 opened 1 missing 0\n4 yes phase 0\n15 committed 2 missing 1\n4 no 1\n15 retired\n4 was retired 13\n"
+            )
+        )?
+    );
+    Ok(())
+}
+
+// A fault of a script is told with its line, before any command is done; what can't be written ends the output.
+#[test]
+fn scripts_are_refused(rt: HostRuntime) -> Result<(), Fail> {
+    let rows = [
+        script(b"", 0, b""),
+        script(b"# nothing\n\n", 0, b""),
+        script(b"16 show g 1\n", 65, b"input Session 1:1\n"),
+        script(b"0 show g 1\n0 show g\n", 65, b"input Form 2:1\n"),
+        script(b"\n#\n0 open g\n", 65, b"input Block 3:1\n"),
+        script(b"3 show g 1\n", 0, b"3 no circuit\n"),
+        Row {
+            failing_read: Some(1),
+            ..script(b"0 show g 1\n0 show g 1\n", 66, b"read\n")
+        },
+        Row {
+            failing_write: Some(0),
+            ..script(b"0 show g 1\n", 67, b"")
+        },
+    ];
+    for row in &rows {
+        assert!(rt; ends_so(rt.alloc(), row)?);
+    }
+    Ok(())
+}
+
+// Entry 262,144 has no room: its command is not answered, and that is told.
+#[test]
+fn full_journals_are_told(rt: HostRuntime) -> Result<(), Fail> {
+    let alloc = rt.alloc();
+    let mut input = Vec::new(alloc);
+    let mut printed = Vec::new(alloc);
+    for _ in 0..262_144u32 {
+        input.extend_from_slice(b"0 show h 1\n")?;
+        printed.extend_from_slice(b"0 no circuit\n")?;
+    }
+    input.extend_from_slice(b"0 show h 1\n")?;
+    printed.extend_from_slice(b"full\n")?;
+    let mut words = Vec::new(alloc);
+    words.push(String::from_str(alloc, "run")?)?;
+    words.push(String::from_str(alloc, "0")?)?;
+    let mut source = MemorySource::new(input, 16_384, Vec::new(alloc));
+    let mut sink = MemorySink::new(vec![in alloc; 0; 4_194_304]?, Vec::new(alloc));
+    let ended = run(alloc, &words, &mut source, &mut sink, &OpenGate);
+    assert_eq!(rt; ended.status, 69);
+    assert_eq!(rt; ended.journal.as_slice().len(), 262_144);
+    assert!(rt; sink.held() == printed.as_slice());
     Ok(())
 }

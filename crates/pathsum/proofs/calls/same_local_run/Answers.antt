@@ -1,5 +1,5 @@
 use Rattle.pathsum.proofs.Judging.{printed}
 use Rattle.pathsum.proofs.calls.same_local_run.Goals as goal
 
-pub returns : goal.returns
-returns g c = printed _ _ _ _ _ _ _ c.answer-answer.ensures tt c.print.ensures
+pub returns-clause-ends : goal.returns-clause-ends
+returns-clause-ends g c = printed _ _ _ _ _ _ _ c.answer-answer.ensures tt c.print.ensures.written

@@ -1,4 +1,3 @@
-use Rattle.std.proofs.Common.{◌∙◌}
 use Rattle.pathsum.proofs.Verdicts.{can_run, within_run}
 use Rattle.pathsum.proofs.Edits.{local_told}
 use Rattle.pathsum.proofs.verdict.decide_edit.Goals as goal
