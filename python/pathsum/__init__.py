@@ -26,12 +26,16 @@ from .answers import (
     Yes,
 )
 from .circuits import Circuit
+from .commands import Command, Place
 from .errors import (
     Cancelled,
     CircuitError,
     Fault,
+    FullError,
     PathsumError,
     ProgramError,
+    RefusedError,
+    ScriptError,
     TimeLimitError,
     TooLongError,
     UndecidedError,
@@ -40,6 +44,7 @@ from .errors import (
 )
 from .program import Program, find_program
 from .questions import NotKnownError, Outcome, assert_same, compare, prove, replay, same, same_many
+from .scripts import Response, Script, commands_of, run
 
 __version__ = "0.1.0"
 
@@ -49,7 +54,9 @@ __all__ = [
     "Cancelled",
     "Circuit",
     "CircuitError",
+    "Command",
     "Fault",
+    "FullError",
     "Input",
     "Left",
     "Limit",
@@ -57,11 +64,16 @@ __all__ = [
     "NotKnownError",
     "Outcome",
     "PathsumError",
+    "Place",
     "Program",
     "ProgramError",
     "Qubit",
+    "RefusedError",
     "Rejected",
     "RemainingSum",
+    "Response",
+    "Script",
+    "ScriptError",
     "Shared",
     "TimeLimitError",
     "TooLongError",
@@ -71,10 +83,12 @@ __all__ = [
     "UsageError",
     "Yes",
     "assert_same",
+    "commands_of",
     "compare",
     "find_program",
     "prove",
     "replay",
+    "run",
     "same",
     "same_many",
 ]
