@@ -192,7 +192,7 @@ def response_in_words(response: Response, full: bool = False) -> str:
     if isinstance(answer, Unknown):
         return in_words(answer, full).partition(" ")[2]
     if answer is not None:
-        return "\n".join(in_words(answer, full).split("\n")[1:] + _of_derivation(answer, full))
+        return "\n".join([_lines(answer, full)[1], *_of_derivation(answer, full)])
     if response.kind == "shown":
         items = response.items or ()
         return "\n".join([_many(len(items), "item"), *("; ".join(item) or "-" for item in items)])

@@ -190,13 +190,13 @@ def _function(spot: _Spot) -> Optional[str]:
 
 def _unknown(spot: _Spot) -> Optional[str]:
     name = spot.word
+    text = " of the text with which the circuit is opened" if spot.text.is_block else ""
     if name in LIBRARY and not spot.text.includes_library:
-        text = " of the text with which the circuit is opened" if spot.text.is_block else ""
         return f'`{name}` is a gate of the library: put `include "qelib1.inc";` behind the first line{text}.'
     if name in BODIES:
         return (
-            f"`{name}` is not in pathsum's qelib1.inc. This defines it, up to a global phase; put it behind the include:\n"
-            f"    {BODIES[name]}"
+            f"`{name}` is not in pathsum's qelib1.inc. This defines it, up to a global phase; put it behind the "
+            f"include{text}:\n    {BODIES[name]}"
         )
     known = sorted(spot.text.names() | (set(LIBRARY) if spot.text.includes_library else set()))
     close = difflib.get_close_matches(name, known, 1, 0.6)
