@@ -8,6 +8,10 @@
     print(answer.verdict, answer.explain())
 
     pathsum.assert_same(before, after)  # in a test suite: fails with what differs, where
+
+    script = pathsum.Script()           # circuits under edit: open, splice, ask about versions
+    for response in pathsum.run(script):
+        print(response.command, response.explain())
 """
 from __future__ import annotations
 

@@ -128,8 +128,12 @@ def _of_unknown(answer: Unknown, full: bool) -> List[str]:
     ]
 
 
+def _count(limit: Limit) -> str:
+    return "10^12 or more" if limit.count >= 10**12 else f"{limit.count:,}"
+
+
 def _of_limit(limit: Limit) -> List[str]:
-    count = "10^12 or more" if limit.count >= 10**12 else f"{limit.count:,}"
+    count = _count(limit)
     head = f"unknown passed {limit.what} {limit.count}"
     if limit.what == "terms":
         return [
@@ -198,7 +202,7 @@ def response_in_words(response: Response, full: bool = False) -> str:
         return "\n".join([_many(len(items), "item"), *("; ".join(item) or "-" for item in items)])
     if response.limit is not None:
         limit = response.limit
-        return f"it has no sum: a part of it would have {limit.count:,} {limit.what}, and at most {limit.allowed:,} are allowed"
+        return f"it has no sum: a part of it would have {_count(limit)} {limit.what}, and at most {limit.allowed:,} are allowed"
     if response.sum is not None:
         return _told(response.sum, full)
     if response.fault is not None:

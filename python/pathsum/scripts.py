@@ -260,26 +260,36 @@ class _Replies:
         self.retired: Dict[Place, Command] = {}
 
     def read(self, lines: List[str]) -> List[Response]:
-        end = ["full", ""] if self.reply.status == 69 else [""]
+        """The responses, where there is a reply to each command, or to some and then the line `full`."""
+        is_full = self.reply.status == 69
+        end = ["full", ""] if is_full else [""]
         found: List[Response] = []
-        at, stop = 0, len(lines) - len(end)
-        while lines[stop:] == end and at < stop:
-            session, _, said = lines[at].partition(" ")
-            counted = COUNTED.fullmatch(said)
-            behind = at + 1 + (int(counted[1]) if counted else 0)
-            try:
-                if not self.waiting.get(session) or behind > stop:
-                    raise _Unreadable
-                found.append(self.response(self.waiting[session].popleft(), said, lines[at + 1 : behind]))
-            except (_Unreadable, ValueError):
-                break
-            at = behind
+        at = 0
+        try:
+            if lines[-len(end) :] != end:
+                raise _Unreadable
+            lines = lines[: -len(end)]
+            while at < len(lines):
+                response, behind = self.response_at(lines, at)
+                found.append(response)
+                at = behind
+        except (_Unreadable, KeyError, ValueError):
+            raise ProgramError(f"the program's replies can't be read from line {at + 1} on: {lines[at][:200]}") from None
         left = [command for commands in self.waiting.values() for command in commands]
-        if at != stop or left and len(end) == 1:
-            raise ProgramError(f"the program's replies can't be read from line {at + 1} on: {lines[at][:200] or 'nothing'}")
-        if len(end) > 1:
+        if is_full:
             raise FullError(found, left)
+        if left:
+            raise ProgramError(f"the program gave no reply to `{left[0]}` of line {left[0].line}")
         return found
+
+    def response_at(self, lines: List[str], at: int) -> Tuple[Response, int]:
+        """The reply at a line, and where the next one is."""
+        session, _, said = lines[at].partition(" ")
+        counted = COUNTED.fullmatch(said)
+        behind = at + 1 + (int(counted[1]) if counted else 0)
+        if not self.waiting.get(session) or behind > len(lines):
+            raise _Unreadable
+        return self.response(self.waiting[session].popleft(), said, lines[at + 1 : behind]), behind
 
     def response(self, command: Command, said: str, more: List[str]) -> Response:
         """The reply to a command, with the lines that stand behind its first one."""

@@ -22,10 +22,10 @@ sys.exit(subprocess.run([{program!r}, *sys.argv[1:]], input=given).returncode)
 """
 
 
-def knows(*words, given=""):
-    """Whether the program knows these words."""
+def knows(*words, given="", beside=(64,)):
+    """Whether the program knows these words, and this input: it ends with another status than these."""
     try:
-        return program.ask(words, given.encode()).status != 64
+        return program.ask(words, given.encode()).status not in beside
     except pathsum.PathsumError:
         return False
 

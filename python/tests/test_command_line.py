@@ -312,6 +312,10 @@ class Edits(StandIns):
         self.assertEqual((summed["sum"]["text"], summed["limit"]), ("k=0 m=0 P=0 f=1+x0", None))
         self.assertEqual((version["kind"], version["latest"], circuit["kind"]), ("no version", 1, "no circuit"))
         self.assertEqual((taken["kind"], taken["entry"], taken["earlier"]), ("name taken", 0, 1))
+        section = (ROOT / "docs/JSON.md").read_text().split("## A script")[1]
+        told = set(re.findall(r"`(\w+)`", section))
+        self.assertLessEqual({*record, *(field for each in record["commands"] for field in each)}, told)
+        self.assertLessEqual({each["kind"] for each in record["commands"]}, set(re.findall(r"`([\w ]+)`", section)))
 
     def test_wrong_uses(self):
         for status, words, said in [

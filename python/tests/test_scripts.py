@@ -14,6 +14,7 @@ from .stand_in import StandIns, knows
 
 KNOWN = knows("run", "0")
 NEWER = "the program does not know these words yet"
+KNOWS_PHASE = knows("run", "0", given="0 ask phase a 1 a 1\n", beside=(64, 65))
 
 
 def head(qubits):
@@ -91,6 +92,12 @@ class Sessions(unittest.TestCase):
         self.assertEqual(str(found[3].where), "q=1")
         self.assertEqual([bool(each) for each in found], [True, True, True, False])
 
+    @unittest.skipUnless(KNOWS_PHASE, NEWER)
+    def test_up_to_a_phase(self):
+        script = opened("a", 1, "rx(pi) q[0];\n") + opened("b", 1, "x q[0];\n") + opened("phase", 1)
+        script += "0 ask a 1 b 1\n0 ask phase a 1 b 1\n0 ask phase 1 a 1\n"
+        self.assertEqual(raw(script)[3:], ["no 0", "yes phase 1/4", "no 0"])
+
     def test_unknown(self):
         response = run(opened("a", 1, "h q[0];\nt q[0];\nh q[0];\n") + opened("b", 1) + "0 ask a 1 b 1\n")[2]
         self.assertEqual((response.kind, response.verdict, response.status), ("unknown", "unknown", 2))
@@ -120,8 +127,9 @@ class Sessions(unittest.TestCase):
         self.assertEqual((len(caught.exception.responses), len(caught.exception.left)), (262_144, 1))
 
     def test_too_long(self):
-        with self.assertRaises(pathsum.TooLongError):
+        with self.assertRaisesRegex(pathsum.TooLongError, "the script has 16,777,217 bytes"):
             run(b"#" * 16_777_217)
+        self.assertEqual(run(b"#" * 16_777_216), [])
 
     def test_sessions_side_by_side(self):
         """Each session has its replies in its own order."""
