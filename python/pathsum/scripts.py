@@ -131,6 +131,8 @@ NUMBERS = {
     "memory": r"memory",
 }
 """The replies of one line that have numbers alone."""
+MADE_BY = {"opened": "open", "committed": "splice", "retired": "retire"}
+"""What is done comes of one command alone."""
 PATTERNS = {kind: re.compile(pattern.replace("N", "[0-9]+")) for kind, pattern in NUMBERS.items()}
 BAD = re.compile(r"bad ([A-Za-z]+) ([0-9]+):([0-9]+)")
 SUM = re.compile(r"sum (k=-?[0-9]+ m=[0-9]+ P=[^ ]+ f=[^ ]+)")
@@ -294,6 +296,11 @@ class _Replies:
     def response(self, command: Command, said: str, more: List[str]) -> Response:
         """The reply to a command, with the lines that stand behind its first one."""
         raw = "\n".join([said, *more])
+        # (these first: `no circuit` is no `no`)
+        for kind, pattern in PATTERNS.items():
+            found = pattern.fullmatch(raw)
+            if found and MADE_BY.get(kind, command.word) == command.word:
+                return self.plain(command, kind, found)
         word = said.split(" ")[0]
         if word in STATUSES and command.word in QUESTIONS:
             answer = self.answer(command, said, more)
@@ -305,7 +312,7 @@ class _Replies:
             return self.sum(command, raw)
         if word == "bad" and command.word in WITH_BLOCK:
             return Response(command, raw, word, fault=self.fault(command, said))
-        return self.plain(command, raw)
+        raise _Unreadable
 
     def answer(self, command: Command, said: str, more: List[str]) -> Answer:
         """As that to the same question about two files."""
@@ -341,13 +348,7 @@ class _Replies:
         assert block is not None
         return block
 
-    def plain(self, command: Command, raw: str) -> Response:
-        for kind, pattern in PATTERNS.items():
-            found = pattern.fullmatch(raw)
-            if found:
-                break
-        else:
-            raise _Unreadable
+    def plain(self, command: Command, kind: str, found: "re.Match[str]") -> Response:
         earlier = None
         if kind == "opened":
             self.opened[command.name] = command
@@ -358,4 +359,4 @@ class _Replies:
         elif kind == "was retired":
             earlier = next((self.retired[place] for place in command.places if place in self.retired), None)
         numbers: Dict[str, Any] = {name: int(number) for name, number in found.groupdict().items()}
-        return Response(command, raw, kind, earlier=earlier, **numbers)
+        return Response(command, found[0], kind, earlier=earlier, **numbers)

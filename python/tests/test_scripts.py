@@ -65,6 +65,9 @@ class Sessions(unittest.TestCase):
         done = [each.verdict == "done" for each in found]
         self.assertEqual(done, [True, True, True] + [False] * 3 + [True] + [False] * 7)
         self.assertEqual([each.earlier.line if each.earlier else None for each in found][7:], [16, None, 16] + [None] * 3 + [1])
+        for response in found[3:6]:
+            self.assertEqual((response.verdict, response.status), ("refused", 65))
+            self.assertRaises(pathsum.UndecidedError, bool, response)
         fault = found[12].fault
         self.assertEqual((fault.name, fault.line, fault.column, fault.source), ("NotDyadic", 25, 4, "rx(pi/3) q[0];"))
 
@@ -110,6 +113,16 @@ class Sessions(unittest.TestCase):
         response = run(opened("a", 1, gates) + "0 show a 1\n")[1]
         self.assertEqual(response.raw, "shown 2\nU 0,0,0 0; U 0,0,1073741824 0\n-")
         self.assertEqual(response.items, (("U 0,0,0 0", "U 0,0,1073741824 0"), ()))
+
+    def test_questions_that_are_refused(self):
+        """`no circuit` and `no version` are no answers."""
+        script = opened("a", 1) + "0 ask a 1 b 1\n0 prove b 1 a 1\n0 ask a 1 a 2\n0 sum b 1\n0 sum a 0\n"
+        script += "0 splice a 1 0 0\nx q[0];\n.\n0 retire a 1\n0 ask a 2 a 1\n"
+        found = run(script)
+        self.assertEqual([(each.raw, each.kind) for each in found[1:6]], [("no circuit", "no circuit")] * 2
+                         + [("no version 1", "no version"), ("no circuit", "no circuit"), ("no version 1", "no version")])
+        self.assertEqual({each.verdict for each in found[1:6]}, {"refused"})
+        self.assertEqual((found[8].kind, found[8].earlier.line), ("was retired", 14))
 
     def test_limits(self):
         self.assertEqual(raw("".join(opened(f"c{at}", 1) for at in range(257)))[255:], ["opened 1 missing 0", "circuits full"])
@@ -376,7 +389,7 @@ class StandIn(StandIns):
         self.assertIn("script:2:1: Form: the program that answers does not know this command", str(caught.exception))
 
     def test_limits(self):
-        script = opened("a", 1) + "0 sum a 1\n0 sum a 1\n0 ask a 1 a 1\n0 show a 1\n0 ask a 1 a 1\n"
+        script = opened("a", 1) + "0 sum a 1\n0 sum a 1\n0 ask a 1 a 1\n0 ask a 1 a 1\n0 ask a 1 a 1\n"
         replies = "0 opened 1 missing 1\n0 sum passed terms 70000\n0 sum passed variables 513\n0 unknown passed terms 70000\n"
         found = self.replies(script, replies + "0 no room 8388609\n0 memory")
         self.assertEqual([each.verdict for each in found], ["done", "unknown", "unknown", "unknown", "refused", "refused"])
@@ -414,6 +427,9 @@ class StandIn(StandIns):
             "0 opened 1 missing 0\n0 bad Syntax 1:1",
             "0 bad Syntax 1\n0 no circuit",
             "0 maybe\n0 no circuit",
+            "0 no circuit\n0 opened 1 missing 0",
+            "0 retired\n0 no circuit",
+            "0 opened 1 missing 0\n0 committed 2 missing 0",
         ]:
             with self.subTest(text), self.assertRaises(pathsum.ProgramError):
                 self.replies(script, text)
