@@ -102,22 +102,30 @@ def command_of(text: str, line: int = 1, block: Optional[Circuit] = None) -> Com
 
 def _check(text: str, words: List[str], word: str, values: List[str]) -> None:
     if not all(words) or text.split() != words:
-        raise NoCommand("Form", "the words of a command are separated by one space each, and nothing else stands in its line")
+        raise NoCommand("Form", "the words of a command stand alone in its line, with one space between each two")
     if not _is_number(words[0]):
-        raise NoCommand("Form", f"`{words[0]}` is no session", "A command begins with its session, 0 to 15, as in `0 show g 1`.")
+        said = "A command begins with its session, 0 to 15, as in `0 show g 1`."
+        raise NoCommand("Form", f"`{words[0]}` is no session", said)
     if word not in FORMS:
         raise NoCommand("Form", f"`{word}` is no command" if word else "the command is missing", _commands(word))
-    if len(values) != len(FORMS[word]):
-        raise NoCommand("Form", f"`{word}` has {len(FORMS[word])} words behind it, and here it has {len(values)}", _form(word))
-    for value, form in zip(values, FORMS[word]):
-        if form == "NAME" and not NAME.fullmatch(value):
-            said = "A name is a lower-case letter and then lower-case letters, digits and `_`, at most 32 in all."
-            raise NoCommand("Form", f"`{value}` is no name of a circuit", said)
-        if form != "NAME" and not _is_number(value):
-            said = f"A number has digits alone, no 0 in front, and is at most {LARGEST:,}."
-            raise NoCommand("Form", f"`{value}` is no number ({form})", said)
+    form = FORMS[word]
+    if len(values) != len(form):
+        said = f"`{word}` has {len(form)} words behind it, and here it has {len(values)}"
+        raise NoCommand("Form", said, _form(word))
+    for value, what in zip(values, form):
+        _check_value(value, what)
     if int(words[0]) >= SESSIONS:
-        raise NoCommand("Session", MEANINGS["Session"], f"Session {words[0]} can be another of these, or a script of its own.")
+        said = f"Session {words[0]} can be another of these, or stand in a script of its own."
+        raise NoCommand("Session", MEANINGS["Session"], said)
+
+
+def _check_value(value: str, what: str) -> None:
+    if what == "NAME" and not NAME.fullmatch(value):
+        said = "A name is a lower-case letter and then lower-case letters, digits and `_`, at most 32 in all."
+        raise NoCommand("Form", f"`{value}` is no name of a circuit", said)
+    if what != "NAME" and not _is_number(value):
+        said = f"A number has digits alone, no 0 in front, and is at most {LARGEST:,}."
+        raise NoCommand("Form", f"`{value}` is no number ({what})", said)
 
 
 def _is_number(word: str) -> bool:
@@ -177,8 +185,8 @@ def script_fault(name: str, file: str, data: bytes, line: int) -> Fault:
 
 
 def _lines(data: bytes) -> List[bytes]:
-    """The lines of a script without their ends, LF or CR LF. What stands behind the last end is a line too, and its CR is
-    no end."""
+    """The lines of a script without their ends, LF or CR LF. What stands behind the last end is a line too, and its CR
+    is no end."""
     pieces = data.split(b"\n")
     return [piece[:-1] if piece.endswith(b"\r") else piece for piece in pieces[:-1]] + pieces[-1:]
 

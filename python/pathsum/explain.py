@@ -201,8 +201,8 @@ def response_in_words(response: Response, full: bool = False) -> str:
         items = response.items or ()
         return "\n".join([_many(len(items), "item"), *("; ".join(item) or "-" for item in items)])
     if response.limit is not None:
-        limit = response.limit
-        return f"it has no sum: a part of it would have {_count(limit)} {limit.what}, and at most {limit.allowed:,} are allowed"
+        would = f"{_count(response.limit)} {response.limit.what}"
+        return f"it has no sum: a part of it would have {would}, and at most {response.limit.allowed:,} are allowed"
     if response.sum is not None:
         return _told(response.sum, full)
     if response.fault is not None:
@@ -227,7 +227,8 @@ def _of_command(response: Response) -> str:
         return "nothing can be asked about it any more"
     if not response.missing:
         return f"version {response.version}"
-    return f"version {response.version}, of which {_many(response.missing, 'part')} {'has' if response.missing == 1 else 'have'} no sum yet"
+    parts = f"{_many(response.missing, 'part')} {'has' if response.missing == 1 else 'have'}"
+    return f"version {response.version}, of which {parts} no sum yet"
 
 
 def _of_refusal(response: Response) -> str:
@@ -235,6 +236,7 @@ def _of_refusal(response: Response) -> str:
     at = f", at line {earlier.line}" if earlier else ""
     names = " or ".join(dict.fromkeys(f"`{place.name}`" for place in command.places))
     versions = " or ".join(dict.fromkeys(str(place) for place in command.places))
+    items = _many(response.length or 0, "item")
     said = {
         "name taken": f"a circuit {names} was opened before{at}",
         "circuits full": "256 circuits were opened, and no more can be",
@@ -243,13 +245,14 @@ def _of_refusal(response: Response) -> str:
         "was retired": f"the version {versions} was retired before{at}",
         "latest": "the latest version can't be retired",
         "stale": f"{command.places[0]} is not the latest version, which is {response.latest}: splice that",
-        "span": f"the version has {_many(response.length or 0, 'item')}: FROM is at most TO, and TO at most {response.length}",
-        "too long": f"it would have {response.length} items, and a circuit has at most 65,536",
+        "span": f"the version has {items}: FROM is at most TO, and TO at most {response.length}",
+        "too long": f"it would have {items}, and a circuit has at most 65,536",
         "nothing": "nothing is taken out and nothing put in",
-        "no room": f"{response.total} terms would be kept in this run, and at most 8,388,608 are: split the script",
+        "no room": f"{response.total or 0:,} terms would be kept in this run, and at most 8,388,608 are: split the script",
         "memory": "memory ran out; no circuit was changed",
     }
     if response.kind == "widths":
-        first, second = _many(response.first_qubits or 0, "qubit"), _many(response.second_qubits or 0, "qubit")
-        return f"{command.places[0]} has {first}, and {command.places[1]} has {second}: only on as many can they be compared"
+        counts = [_many(count or 0, "qubit") for count in (response.first_qubits, response.second_qubits)]
+        first, second = (f"{place} has {count}" for place, count in zip(command.places, counts))
+        return f"{first}, and {second}: only on as many can they be compared"
     return said[response.kind]

@@ -115,7 +115,7 @@ def _syntax(spot: _Spot) -> Optional[str]:
     if has_mark(spot.source):
         return "A line `====` is what separates circuits in pathsum's own input, and is never right in one: a file has one circuit."
     if spot.text.is_block and spot.word in DECLARING:
-        return "The gates of a splice are applications alone: its circuit has what the text declares with which it was opened."
+        return "The gates of a splice are applications alone: what they name is declared where their circuit is opened."
     wanted = wanted_at(spot.text, spot.offset)
     if not wanted:
         return None

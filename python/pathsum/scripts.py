@@ -19,8 +19,8 @@ from .questions import REFUSED, Asking, Source, ToQasm, no_answer
 
 
 class Script:
-    """A script: commands of at most 16 sessions. Each method adds one, and gives it, so that a Response can be told by its
-    command. A version is named by its circuit and its number: `open` makes version 1, and each `splice` the next one."""
+    """A script: commands of at most 16 sessions. Each method adds one, and gives it, so that a Response can be told by
+    its command. A version is named by its circuit and its number: `open` makes version 1, and each `splice` the next."""
 
     def __init__(self, name: str = "script") -> None:
         self.name = name
@@ -43,10 +43,10 @@ class Script:
     def splice(
         self, name: str, base: int, start: int, stop: int, block: Union[Source, None] = None, *, session: int = 0
     ) -> Command:
-        """Puts the gates of a block in place of the items from `start` on and before `stop`, as in a Python slice, and makes
-        the next version. An item is a gate applied to one place of its registers. `base` is the latest version: where
-        another session made one meanwhile, the splice is refused as `stale`. A block is a text of applications (`h q[0];`),
-        or a path; without one the items go."""
+        """Puts the gates of a block in place of the items from `start` on and before `stop`, as in a Python slice, and
+        makes the next version. An item is a gate applied to one place of its registers. `base` is the latest version:
+        where another session made one meanwhile, the splice is refused as `stale`. A block is a text of applications
+        (`h q[0];`), or a path; without one the items go."""
         is_empty = block is None or isinstance(block, (str, bytes)) and not block
         name_of_block = f"splice of {name} {base}"
         gates = Circuit(name_of_block, b"") if is_empty else circuit_of(block, name_of_block)
@@ -107,8 +107,8 @@ def _text_of(script: Any) -> _Text:
 
 
 def commands_of(script: Any) -> List[Command]:
-    """The commands of a script: of a text (which has a line end), the bytes of one, or a path. Raises ScriptError at the
-    first line that is no command."""
+    """The commands of a script: of a text (which has a line end), the bytes of one, or a path. Raises ScriptError at
+    the first line that is no command."""
     return list(script.commands) if isinstance(script, Script) else read_commands(*_text_of(script))
 
 
@@ -151,15 +151,15 @@ class Response:
     raw: str
     """As the program printed it, without the session's number in front and the line end behind."""
     kind: str
-    """`opened`, `committed`, `retired`, `shown`, `sum`; `yes`, `no`, `unknown`; or why the command was refused, and changed
-    nothing: `bad`, `stale`, `span`, `nothing`, `too long`, `latest`, `name taken`, `circuits full`, `no circuit`,
-    `no version`, `was retired`, `widths`, `no room`, `memory`."""
+    """`opened`, `committed`, `retired`, `shown`, `sum`; `yes`, `no`, `unknown`; or why the command was refused, and
+    changed nothing: `bad`, `stale`, `span`, `nothing`, `too long`, `latest`, `name taken`, `circuits full`,
+    `no circuit`, `no version`, `was retired`, `widths`, `no room`, `memory`."""
     version: Optional[int] = None
     """The version that was made."""
     missing: Optional[int] = None
     """So many parts of that version have no sum yet; the first question about it makes them."""
     items: Optional[Tuple[Tuple[str, ...], ...]] = None
-    """Of `shown`: for each item its primitive gates, as `CX 0 1` and `U 0,0,1073741824 0`, angles in units of pi/2^30."""
+    """Of `shown`: for each item its primitive gates: `CX 0 1`, or `U 0,0,1073741824 0` in units of pi/2^30."""
     sum: Optional[RemainingSum] = None
     """Of `sum`: the reduced path sum of the version."""
     limit: Optional[Limit] = None
@@ -189,7 +189,7 @@ class Response:
 
     @property
     def verdict(self) -> str:
-        """`yes`, `no` or `unknown` of a question; `unknown` too where a sum passed a limit; else `done` or `refused`."""
+        """`yes`, `no` or `unknown` of a question; `unknown` too where a sum passed a limit; else `done`, `refused`."""
         if self.answer is not None:
             return self.answer.verdict
         if self.limit is not None:
@@ -226,12 +226,13 @@ class Response:
 
 
 def run(script: Any, *, timeout: Optional[float] = None, cancel: Optional[threading.Event] = None) -> List[Response]:
-    """Has the program do the commands of a script, and gives what came of each, in the order in which they were done: that
-    of the script for each session, and any between sessions.
+    """Has the program do the commands of a script, and gives what came of each, in the order in which they were done:
+    that of the script for each session, and any between sessions.
 
-    A script is a `Script`, a text with a line end, or a path. After `timeout` seconds, or once the event `cancel` is set,
-    the program is ended. Raises ScriptError where the script is refused as a whole, FullError where some commands were not
-    done, and another PathsumError where there are no replies. A command that is refused by itself is no error here."""
+    A script is a `Script`, a text with a line end, or a path. After `timeout` seconds, or once the event `cancel` is
+    set, the program is ended. Raises ScriptError where the script is refused as a whole, FullError where some commands
+    were not done, and another PathsumError where there are no replies. A command that is refused by itself is no error
+    here."""
     text = _text_of(script)
     if len(text.data) > LONGEST:
         raise TooLongError(f"the script has {len(text.data):,} bytes, and at most {LONGEST:,} are read")
@@ -276,7 +277,8 @@ class _Replies:
                 found.append(response)
                 at = behind
         except (_Unreadable, KeyError, ValueError):
-            raise ProgramError(f"the program's replies can't be read from line {at + 1} on: {lines[at][:200]}") from None
+            said = f"the program's replies can't be read from line {at + 1} on: {lines[at][:200]}"
+            raise ProgramError(said) from None
         left = [command for commands in self.waiting.values() for command in commands]
         if is_full:
             raise FullError(found, left)
@@ -316,8 +318,6 @@ class _Replies:
 
     def answer(self, command: Command, said: str, more: List[str]) -> Answer:
         """As that to the same question about two files."""
-        if not all(place.name in self.opened for place in command.places):
-            raise _Unreadable
         circuits = tuple(Circuit(str(place), self.text(place.name).data) for place in command.places)
         text = "\n".join(more or [said]) + "\n"
         reply = dataclasses.replace(self.reply, status=STATUSES[said.split(" ")[0]], output=text.encode())

@@ -223,7 +223,7 @@ REFUSED = [
     (b"0 splice g 1 0 x\n.\n", "Form", 1, "`x` is no number (TO)"),
     (b"0 ask a 1 b\n", "Form", 1, "`ask` has 4 words behind it, and here it has 3"),
     (b"0 ask phase a 1 b\n", "Form", 1, "`a` is no number"),
-    (b"0 show g 1\r", "Form", 1, "nothing else"),
+    (b"0 show g 1\r", "Form", 1, "alone in its line"),
     (b"0 open g\n.\r", "Block", 1, "a single `.`"),
     (b"0 show \xff 1\n", "Form", 1, "is no name"),
     (b"0 open g\n0 show g 1\n.\n.\n", "Form", 4, "no session"),
@@ -256,20 +256,33 @@ class Builder(unittest.TestCase):
     def test_each_command(self):
         script = pathsum.Script()
         script.open("g", head(1))
+        script.open("h", head(1), session=1)
         script.splice("g", 1, 0, 0, "h q[0];", session=3)
         script.splice("g", 2, 0, 1)
         script.splice("g", 3, 0, 1, b"")
-        script.retire("g", 1)
-        script.show("g", 2)
-        script.sum("g", 2)
-        script.ask("g", 2, "h", 3)
+        script.retire("g", 1, session=4)
+        script.show("g", 2, session=5)
+        script.sum("g", 2, session=6)
+        script.ask("g", 2, "h", 3, session=7)
         script.ask("g", 2, "h", 3, phase=True, session=15)
-        last = script.prove("g", 2, "h", 3)
+        last = script.prove("g", 2, "h", 3, session=8)
         self.assertEqual(
             script.data.decode(),
-            f"0 open g\n{head(1)}.\n3 splice g 1 0 0\nh q[0];\n.\n0 splice g 2 0 1\n.\n0 splice g 3 0 1\n.\n0 retire g 1\n"
-            "0 show g 2\n0 sum g 2\n0 ask g 2 h 3\n15 ask phase g 2 h 3\n0 prove g 2 h 3\n",
+            f"0 open g\n{head(1)}.\n1 open h\n{head(1)}.\n3 splice g 1 0 0\nh q[0];\n.\n0 splice g 2 0 1\n.\n"
+            "0 splice g 3 0 1\n.\n4 retire g 1\n5 show g 2\n6 sum g 2\n7 ask g 2 h 3\n15 ask phase g 2 h 3\n8 prove g 2 h 3\n",
         )
+        script = pathsum.Script()
+        for add in (script.retire, script.show, script.sum):
+            add("g", 1)
+        script.ask("g", 1, "h", 2)
+        script.prove("g", 1, "h", 2)
+        self.assertEqual({command.session for command in script.commands}, {0})
+
+    def test_a_script_that_is_read_again(self):
+        script = pathsum.Script()
+        script.open("g", head(1))
+        script.splice("g", 1, 0, 0, "h q[0];")
+        last = script.ask("g", 1, "g", 2)
         again = commands_of(script.data)
         self.assertEqual([(str(each), each.line) for each in again], [(str(each), each.line) for each in script.commands])
         self.assertIs(script.commands[-1], last)
@@ -456,7 +469,7 @@ class StandIn(StandIns):
             "version 2",
             "a 1 is not the latest version, which is 2: splice that",
             "the version has 3 items: FROM is at most TO, and TO at most 3",
-            "it would have 70000 items, and a circuit has at most 65,536",
+            "it would have 70,000 items, and a circuit has at most 65,536",
             "nothing is taken out and nothing put in",
             "memory ran out; no circuit was changed",
             "nothing can be asked about it any more",
@@ -464,7 +477,7 @@ class StandIn(StandIns):
             "the version a 1 was retired before, at line 18",
             "there is no version a 1: the latest is 1",
             "1 item\n-",
-            "9000000 terms would be kept in this run, and at most 8,388,608 are: split the script",
+            "9,000,000 terms would be kept in this run, and at most 8,388,608 are: split the script",
             "there is no circuit `a`",
             "k=0 m=0 P=0 f=x0",
             "a 1 has 1 qubit, and a 2 has 2 qubits: only on as many can they be compared",
