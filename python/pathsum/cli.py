@@ -22,8 +22,8 @@ EPILOG = """exit status:
   0  yes: one linear map (replay: accepted; batch: all are; edit: all is done, and each answer is yes)
   1  no: they differ (replay: rejected; batch, edit: some do)
   2  unknown: neither was shown (replay: left; batch, edit: some are, and none is a no)
- 64  the words of the command are wrong       65  a circuit, a script or one of its commands is refused
- 66  a file can't be read                         (batch: some pair has no verdict)
+ 64  the words of the command are wrong       65  a circuit or a script is refused (batch: some pair has
+ 66  a file can't be read                         no verdict; edit: some command is refused)
  67  the output can't be written              68  the circuits are too long
  69  edit: too many commands for one run      70  no program, or it gave no answer
  75  the time limit was reached              130  interrupted

@@ -176,7 +176,7 @@ def script_fault(name: str, file: str, data: bytes, line: int) -> Fault:
     try:
         command_of(source)
         if name == "Block":
-            advice = "A text, or the gates of a splice, end with a line that is a single `.`."
+            advice = "Behind a text, and behind the gates of a splice, stands a line that is a single `.`."
         else:
             message = "the program that answers does not know this command"
     except NoCommand as error:

@@ -7,7 +7,7 @@ import re
 import threading
 from collections import deque
 from dataclasses import dataclass
-from typing import Any, Deque, Dict, List, NamedTuple, Optional, Sequence, Tuple, Union
+from typing import Any, Deque, Dict, List, NamedTuple, Optional, Sequence, Tuple
 
 from .answers import LIMITS, Answer, Input, Limit, No, RemainingSum
 from .circuits import LONGEST, Circuit, circuit_of, decoded, read_file
@@ -41,7 +41,7 @@ class Script:
         return self._add(session, "open", name, block=circuit_of(source, f"circuit {name}", to_qasm))
 
     def splice(
-        self, name: str, base: int, start: int, stop: int, block: Union[Source, None] = None, *, session: int = 0
+        self, name: str, base: int, start: int, stop: int, block: Source = None, *, session: int = 0
     ) -> Command:
         """Puts the gates of a block in place of the items from `start` on and before `stop`, as in a Python slice, and
         makes the next version. An item is a gate applied to one place of its registers. `base` is the latest version:
