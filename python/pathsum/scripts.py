@@ -29,6 +29,7 @@ class Script:
 
     @property
     def commands(self) -> Tuple[Command, ...]:
+        """The commands so far, in order."""
         return tuple(self._commands)
 
     @property

@@ -11,6 +11,8 @@ import time
 import unittest
 from pathlib import Path
 
+from pathsum.scripts import PATTERNS
+
 from .gates import ROOT
 from .stand_in import StandIns, knows
 
@@ -315,7 +317,7 @@ class Edits(StandIns):
         section = (ROOT / "docs/JSON.md").read_text().split("## A script")[1]
         told = set(re.findall(r"`(\w+)`", section))
         self.assertLessEqual({*record, *(field for each in record["commands"] for field in each)}, told)
-        self.assertLessEqual({each["kind"] for each in record["commands"]}, set(re.findall(r"`([\w ]+)`", section)))
+        self.assertLessEqual({*PATTERNS, *(each["kind"] for each in record["commands"])}, set(re.findall(r"`([\w ]+)`", section)))
 
     def test_wrong_uses(self):
         for status, words, said in [
