@@ -91,7 +91,7 @@ def command_of(text: str, line: int = 1, block: Optional[Circuit] = None) -> Com
     """The command that a line says. Raises NoCommand where it says none."""
     words = text.split(" ")
     word = "ask phase" if words[1:3] == ["ask", "phase"] and len(words) == 7 else (words + [""])[1]
-    values = words[1 + word.count(" ") + 1 :]
+    values = words[2 + word.count(" ") :]
     _check(text, words, word, values)
     numbers = [int(value) for value, form in zip(values, FORMS[word]) if form != "NAME"]
     names = [value for value, form in zip(values, FORMS[word]) if form == "NAME"]

@@ -88,6 +88,15 @@ class Sessions(unittest.TestCase):
         replayed = pathsum.replay(head(1) + HADAMARDS, head(1), found[4].answer)
         self.assertTrue(replayed)
 
+    def test_a_derivation_of_several_parts(self):
+        """Nine items, of which the last has no gates, are leaves of 8 and 1: two leaves and a branch."""
+        gates = "gate nop a { }\n" + "id q[0];\n" * 8 + "nop q[0];\n"
+        first, proof = run(opened("a", 1, gates) + "0 prove a 1 a 1\n")
+        lines = proof.answer.derivation.split("\n")[:-1]
+        self.assertEqual((first.missing, proof.raw.split("\n")[0], len(lines)), (3, "proof 38", 38))
+        self.assertEqual((lines[16:18], lines[-1]), (["id a", "join"], "end"))
+        self.assertTrue(pathsum.replay(head(1) + gates, head(1) + gates, proof.answer))
+
     def test_what_an_edit_leaves_is_kept(self):
         """Leaves of 8, 8 and 1 items with two branches; then leaves of 5, 3, 8 and 1, of which the last two are kept."""
         found = run(opened("a", 1, "t q[0];\n" * 17) + "0 ask a 1 a 1\n0 splice a 1 4 5\ns q[0];\n.\n0 ask a 1 a 2\n")
