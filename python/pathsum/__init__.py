@@ -8,6 +8,10 @@
     print(answer.verdict, answer.explain())
 
     pathsum.assert_same(before, after)  # in a test suite: fails with what differs, where
+
+    script = pathsum.Script()           # circuits under edit: open, splice, ask about versions
+    for response in pathsum.run(script):
+        print(response.command, response.explain())
 """
 from __future__ import annotations
 
@@ -26,12 +30,16 @@ from .answers import (
     Yes,
 )
 from .circuits import Circuit
+from .commands import Command, Place
 from .errors import (
     Cancelled,
     CircuitError,
     Fault,
+    FullError,
     PathsumError,
     ProgramError,
+    RefusedError,
+    ScriptError,
     TimeLimitError,
     TooLongError,
     UndecidedError,
@@ -40,6 +48,7 @@ from .errors import (
 )
 from .program import Program, find_program
 from .questions import NotKnownError, Outcome, assert_same, compare, prove, replay, same, same_many
+from .scripts import Response, Script, commands_of, run
 
 __version__ = "0.1.0"
 
@@ -49,7 +58,9 @@ __all__ = [
     "Cancelled",
     "Circuit",
     "CircuitError",
+    "Command",
     "Fault",
+    "FullError",
     "Input",
     "Left",
     "Limit",
@@ -57,11 +68,16 @@ __all__ = [
     "NotKnownError",
     "Outcome",
     "PathsumError",
+    "Place",
     "Program",
     "ProgramError",
     "Qubit",
+    "RefusedError",
     "Rejected",
     "RemainingSum",
+    "Response",
+    "Script",
+    "ScriptError",
     "Shared",
     "TimeLimitError",
     "TooLongError",
@@ -71,10 +87,12 @@ __all__ = [
     "UsageError",
     "Yes",
     "assert_same",
+    "commands_of",
     "compare",
     "find_program",
     "prove",
     "replay",
+    "run",
     "same",
     "same_many",
 ]

@@ -46,7 +46,7 @@ class Input:
 
 @dataclass(frozen=True)
 class RemainingSum:
-    """The sum to which the comparison came, and which no rule reduces."""
+    """A path sum that no rule reduces: the one to which a comparison came, or a version's own."""
 
     text: str
     """As the program prints it: `k=2 m=1 P=7/8*y0 f=-`."""

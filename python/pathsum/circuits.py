@@ -12,6 +12,9 @@ from .errors import UnreadableError, UsageError
 from .reading import Register, registers_of
 
 MARK = b"===="
+"""The line between two texts."""
+END = b"."
+"""The line behind a block of a script."""
 LONGEST = 16_777_216
 BYTE_ORDER_MARKS = (
     (codecs.BOM_UTF8, "utf-8"),
@@ -45,15 +48,21 @@ class Circuit:
     def joined(self) -> bytes:
         """The text as the program gets it: its last line ended, and without a line that would separate. Such a line is
         never right in a circuit; `== ==` in its place is refused at the same place for the same reason."""
-        lines = self.data.split(b"\n")
-        if any(_separates(line) for line in lines):
-            lines = [b"== ==" if _separates(line) else line for line in lines]
-        data = b"\n".join(lines)
-        return data if data.endswith(b"\n") or not data else data + b"\n"
+        return _ended(self.data, MARK, b"== ==")
+
+    @property
+    def block(self) -> bytes:
+        """The same as a block of a script, which a line `.` would end."""
+        return _ended(self.data, END, b". .")
 
 
-def _separates(line: bytes) -> bool:
-    return line in (MARK, MARK + b"\r")
+def _ended(data: bytes, mark: bytes, instead: bytes) -> bytes:
+    """A text with its last line ended, and with another line in place of each that is a mark."""
+    marks = (mark, mark + b"\r")
+    lines = data.split(b"\n")
+    if any(line in marks for line in lines):
+        data = b"\n".join(instead if line in marks else line for line in lines)
+    return data if data.endswith(b"\n") or not data else data + b"\n"
 
 
 def has_mark(line: str) -> bool:

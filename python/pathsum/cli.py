@@ -11,23 +11,24 @@ import sys
 import traceback
 from typing import Any, Dict, List, NoReturn, Optional, Sequence
 
-from . import batch, questions
+from . import batch, questions, scripts
 from .answers import Answer, Yes
 from .circuits import LONGEST, Circuit, decoded, read_file
-from .errors import CircuitError, PathsumError, UnreadableError, UsageError
+from .errors import FullError, PathsumError, RefusedError, UnreadableError, UsageError
 from .program import version_line
-from .records import SCHEMA, error_record, record_of
+from .records import SCHEMA, error_record, record_of, script_record
 
 EPILOG = """exit status:
-  0  yes: one linear map (replay: accepted; batch: all are)
-  1  no: they differ (replay: rejected; batch: some do)
-  2  unknown: neither was shown (replay: left; batch: some are, and none is a no)
- 64  the words of the command are wrong       65  a circuit is refused (batch: some pair has no verdict)
- 66  a file can't be read                     67  the output can't be written
- 68  the circuits are too long                70  no program, or it gave no answer
+  0  yes: one linear map (replay: accepted; batch: all are; edit: all is done, and each answer is yes)
+  1  no: they differ (replay: rejected; batch, edit: some do)
+  2  unknown: neither was shown (replay: left; batch, edit: some are, and none is a no)
+ 64  the words of the command are wrong       65  a circuit or a script is refused (batch: some pair has
+ 66  a file can't be read                         no verdict; edit: some command is refused)
+ 67  the output can't be written              68  the circuits are too long
+ 69  edit: too many commands for one run      70  no program, or it gave no answer
  75  the time limit was reached              130  interrupted
 """
-COLOURS = {"yes": "32", "accepted": "32", "no": "31", "rejected": "31", "refused": "31", "error": "31"}
+COLOURS = {"yes": "32", "accepted": "32", "done": "32", "no": "31", "rejected": "31", "refused": "31", "error": "31"}
 
 
 class _Parser(argparse.ArgumentParser):
@@ -61,8 +62,10 @@ def _parser() -> argparse.ArgumentParser:
     compare.add_argument("--phase", action="store_true", help="up to a global phase")
     prove = command("prove", "as compare; a yes prints the derivation that shows it", *circuits)
     replay = command("replay", "checks a derivation of two circuits", *circuits, "DERIVATION")
+    edit = command("edit", "does the commands of a script, which edit circuits and ask about their versions", "SCRIPT")
     for each in (compare, prove, replay):
         each.add_argument("--full", action="store_true", help="print a sum that is left whole, however long")
+    edit.add_argument("--full", action="store_true", help="print sums and derivations whole, however long")
     many = command("batch", "compares many pairs: of a manifest, or of two directories")
     many.add_argument("given", nargs="+", metavar="MANIFEST | DIRECTORY DIRECTORY")
     many.add_argument("--phase", action="store_true", help="up to a global phase")
@@ -88,10 +91,10 @@ _seconds.__name__ = "time"  # (argparse names them in its messages)
 _count.__name__ = "number"
 
 
-def _circuit(path: str) -> Circuit:
+def _circuit(path: str, what: str = "a circuit") -> Circuit:
     if path == "-":
         return Circuit("standard input", decoded(_standard_input()))
-    return Circuit(path, decoded(read_file(path)))
+    return Circuit(path, decoded(read_file(path, what)))
 
 
 def _standard_input() -> bytes:
@@ -181,16 +184,23 @@ def _many(given: argparse.Namespace) -> int:
             if shows and number < len(pairs):
                 sys.stderr.write(f"{number} of {len(pairs)} ..")
                 sys.stderr.flush()
-    status = _batch_status(outcomes)
-    verdicts = [outcome.verdict for outcome in outcomes]
-    counts = {verdict: verdicts.count(verdict) for verdict in ("yes", "no", "unknown", "refused", "error")}
+    status = _common_status(outcomes)
+    counts = _counts(outcomes, ("yes", "no", "unknown", "refused", "error"))
     if given.json:
         records = [_outcome_record(outcome) for outcome in outcomes]
         _put_record({"schema": SCHEMA, "pairs": records, "counts": counts, "status": status})
     else:
-        told = ", ".join(f"{count} {verdict}" for verdict, count in counts.items() if count)
-        _put(f"{len(pairs)} {'pair' if len(pairs) == 1 else 'pairs'}: {told}")
+        _put(_summary(len(pairs), "pair", counts))
     return status
+
+
+def _counts(found: Sequence[Any], verdicts: Sequence[str]) -> Dict[str, int]:
+    return {verdict: sum(each.verdict == verdict for each in found) for verdict in verdicts}
+
+
+def _summary(count: int, what: str, counts: Dict[str, int]) -> str:
+    told = ", ".join(f"{number} {verdict}" for verdict, number in counts.items() if number)
+    return f"{count} {what if count == 1 else what + 's'}{': ' + told if told else ''}"
 
 
 def _line(outcome: questions.Outcome) -> str:
@@ -212,11 +222,37 @@ def _outcome_record(outcome: questions.Outcome) -> Dict[str, Any]:
     return {**error_record(outcome.error), "first": outcome.first, "second": outcome.second}
 
 
-def _batch_status(outcomes: Sequence[questions.Outcome]) -> int:
-    statuses = {outcome.status for outcome in outcomes}
+def _common_status(found: Sequence[Any]) -> int:
+    """The status of many outcomes, or of many responses."""
+    statuses = {each.status for each in found}
     if any(status > 2 for status in statuses):
         return 65
     return 1 if 1 in statuses else 2 if 2 in statuses else 0
+
+
+def _edited(given: argparse.Namespace) -> int:
+    script = _circuit(given.script, "a script")
+    full: Optional[FullError] = None
+    try:
+        responses = scripts.run(script, timeout=given.timeout)
+    except FullError as error:
+        responses, full = error.responses, error
+    status = full.status if full else _common_status(responses)
+    counts = _counts(responses, ("done", "yes", "no", "unknown", "refused"))
+    if given.json:
+        _put_record(script_record(responses, counts, len(full.left) if full else 0, status))
+        return status
+    for response in responses:
+        _put(_response_line(response, given.full))
+    _put(_summary(len(responses), "command", counts))
+    return _failed(full, False) if full else status
+
+
+def _response_line(response: scripts.Response, full: bool) -> str:
+    """What came of a command; what stands behind the first line is indented."""
+    said = response.explain(full).replace("\n", "\n    ")
+    text = f"{response.verdict:8}line {response.command.line}: {response.command}: {said}"
+    return _coloured(response.verdict, text)
 
 
 def _failed(error: PathsumError, as_json: bool) -> int:
@@ -224,7 +260,7 @@ def _failed(error: PathsumError, as_json: bool) -> int:
         _put_record(error_record(error))
     else:
         sys.stdout.flush()
-        prefix = "" if isinstance(error, CircuitError) else "pathsum: "
+        prefix = "" if isinstance(error, RefusedError) else "pathsum: "
         sys.stderr.write(f"{prefix}{error}\n")
     return error.status
 
@@ -237,8 +273,8 @@ def _run(words: Sequence[str]) -> int:
             _put(version_line())
             return 0
         if given.command is None:
-            raise UsageError("a command is wanted: compare, prove, replay or batch (pathsum --help says more)")
-        return _many(given) if given.command == "batch" else _single(given)
+            raise UsageError("a command is wanted: compare, prove, replay, batch or edit (pathsum --help says more)")
+        return {"batch": _many, "edit": _edited}.get(given.command, _single)(given)
     except PathsumError as error:
         return _failed(error, as_json)
 

@@ -2,7 +2,7 @@
 from __future__ import annotations
 
 from dataclasses import dataclass
-from typing import Optional
+from typing import Any, Optional, Sequence
 
 
 @dataclass(frozen=True)
@@ -51,14 +51,22 @@ class UsageError(PathsumError):
     status = 64
 
 
-class CircuitError(PathsumError):
-    """A circuit is refused: its text has a fault, or the two have different numbers of qubits."""
+class RefusedError(PathsumError):
+    """A text is refused for a fault that it has."""
 
     status = 65
 
     def __init__(self, fault: Fault) -> None:
         super().__init__(str(fault))
         self.fault = fault
+
+
+class CircuitError(RefusedError):
+    """A circuit is refused: its text has a fault, or the two have different numbers of qubits."""
+
+
+class ScriptError(RefusedError):
+    """A script is refused, and none of its commands was done: one of its lines is no command."""
 
 
 class UnreadableError(PathsumError):
@@ -71,6 +79,19 @@ class TooLongError(PathsumError):
     """The circuits are longer than the program reads."""
 
     status = 68
+
+
+class FullError(PathsumError):
+    """The journal of a run is full, so some commands of the script were not done."""
+
+    status = 69
+
+    def __init__(self, responses: Sequence[Any], left: Sequence[Any]) -> None:
+        super().__init__(f"the journal of this run is full, and {len(left):,} commands have no reply: split the script")
+        self.responses = list(responses)
+        """What came of the commands that were done; a list of Response."""
+        self.left = list(left)
+        """The commands that have no reply; a list of Command."""
 
 
 class ProgramError(PathsumError):

@@ -6,6 +6,7 @@ from typing import List, Tuple
 
 from .answers import Accepted, Answer, Input, Left, Limit, No, Rejected, RemainingSum, Shared, Unknown, Yes
 from .faults import REASONS
+from .scripts import Response
 
 SHORT = 160
 """A sum with a longer text is told by its size alone."""
@@ -127,8 +128,12 @@ def _of_unknown(answer: Unknown, full: bool) -> List[str]:
     ]
 
 
+def _count(limit: Limit) -> str:
+    return "10^12 or more" if limit.count >= 10**12 else f"{limit.count:,}"
+
+
 def _of_limit(limit: Limit) -> List[str]:
-    count = "10^12 or more" if limit.count >= 10**12 else f"{limit.count:,}"
+    count = _count(limit)
     head = f"unknown passed {limit.what} {limit.count}"
     if limit.what == "terms":
         return [
@@ -183,3 +188,71 @@ def _of_shared(answer: Answer, shared: Shared) -> str:
         f"Alike are {shared.front} items in front and {shared.back} behind{how}; what is left is {_span(shared.first_lines)} of "
         f"{answer.first}, and {_span(shared.second_lines)} of {answer.second}."
     )
+
+
+def response_in_words(response: Response, full: bool = False) -> str:
+    """What came of a command of a script: a sentence, and on lines behind it what more there is to say."""
+    answer = response.answer
+    if isinstance(answer, Unknown):
+        return in_words(answer, full).partition(" ")[2]
+    if answer is not None:
+        return "\n".join([_lines(answer, full)[1], *_of_derivation(answer, full)])
+    if response.kind == "shown":
+        items = response.items or ()
+        return "\n".join([_many(len(items), "item"), *("; ".join(item) or "-" for item in items)])
+    if response.limit is not None:
+        would = f"{_count(response.limit)} {response.limit.what}"
+        return f"it has no sum: a part of it would have {would}, and at most {response.limit.allowed:,} are allowed"
+    if response.sum is not None:
+        return _told(response.sum, full)
+    if response.fault is not None:
+        return f"the {'text' if response.command.word == 'open' else 'block'} has a fault\n{response.fault}"
+    return _of_command(response) if response.kind in ("opened", "committed", "retired") else _of_refusal(response)
+
+
+def _many(count: int, what: str) -> str:
+    return f"{count:,} {what if count == 1 else what + 's'}"
+
+
+def _of_derivation(answer: Answer, full: bool) -> List[str]:
+    derivation = getattr(answer, "derivation", None)
+    if derivation is None:
+        return []
+    lines = derivation.rstrip("\n").split("\n")
+    return lines if full else [f"A derivation of {_many(len(lines), 'line')} shows it; --full prints it."]
+
+
+def _of_command(response: Response) -> str:
+    if response.kind == "retired":
+        return "nothing can be asked about it any more"
+    if not response.missing:
+        return f"version {response.version}"
+    parts = f"{_many(response.missing, 'part')} {'has' if response.missing == 1 else 'have'}"
+    return f"version {response.version}, of which {parts} no sum yet"
+
+
+def _of_refusal(response: Response) -> str:
+    command, earlier = response.command, response.earlier
+    at = f", at line {earlier.line}" if earlier else ""
+    names = " or ".join(dict.fromkeys(f"`{place.name}`" for place in command.places))
+    versions = " or ".join(dict.fromkeys(str(place) for place in command.places))
+    items = _many(response.length or 0, "item")
+    said = {
+        "name taken": f"a circuit {names} was opened before{at}",
+        "circuits full": "256 circuits were opened, and no more can be",
+        "no circuit": f"there is no circuit {names}",
+        "no version": f"there is no version {versions}: the latest is {response.latest}",
+        "was retired": f"the version {versions} was retired before{at}",
+        "latest": "the latest version can't be retired",
+        "stale": f"{command.places[0]} is not the latest version, which is {response.latest}: splice that",
+        "span": f"the version has {items}: FROM is at most TO, and TO at most {response.length}",
+        "too long": f"it would have {items}, and a circuit has at most 65,536",
+        "nothing": "nothing is taken out and nothing put in",
+        "no room": f"{response.total or 0:,} terms would be kept in this run, and at most 8,388,608 are: split the script",
+        "memory": "memory ran out; no circuit was changed",
+    }
+    if response.kind == "widths":
+        counts = [_many(count or 0, "qubit") for count in (response.first_qubits, response.second_qubits)]
+        first, second = (f"{place} has {count}" for place, count in zip(command.places, counts))
+        return f"{first}, and {second}: only on as many can they be compared"
+    return said[response.kind]

@@ -35,8 +35,11 @@ MEANINGS: Dict[str, str] = {
     "NoQubits": "the text declares no qubits",
     "Separator": "a line `====` between the circuits is missing",
     "Widths": "the two circuits have different numbers of qubits",
+    "Form": "this is no command of a script",
+    "Session": "a script has the sessions 0 to 15",
+    "Block": "the line `.` that ends the block of this command is missing",
 }
-"""The sentence of each fault of a text or of a pair of texts."""
+"""The sentence of each fault of a text, of a pair of texts, or of a script."""
 
 REASONS: Dict[str, str] = {
     "Form": "this is no line of a derivation, or it stands behind the line `end`",
@@ -53,14 +56,18 @@ DYADIC = (
 )
 
 
+DECLARING = ("OPENQASM", "include", "qreg", "creg", "gate")
+"""What stands in a whole text, and in no block of a splice."""
+
+
 class _Spot:
     """A fault's place in a text."""
 
-    def __init__(self, circuit: Circuit, line: int, column: int) -> None:
+    def __init__(self, circuit: Circuit, line: int, column: int, opened: Optional[Circuit]) -> None:
         lines = circuit.data.split(b"\n")
         self.offset = sum(len(each) + 1 for each in lines[: line - 1]) + column - 1
         # (what stands far behind the fault explains nothing)
-        self.text = Text(circuit.data[: self.offset + 4096])
+        self.text = Text(circuit.data[: self.offset + 4096], opened.data if opened else None)
         self.token: Optional[Token] = token_at(self.text, self.offset)
         self.line, self.column = line, column
         self.at_end = self.offset >= len(circuit.data)
@@ -107,6 +114,8 @@ def _version(spot: _Spot) -> Optional[str]:
 def _syntax(spot: _Spot) -> Optional[str]:
     if has_mark(spot.source):
         return "A line `====` is what separates circuits in pathsum's own input, and is never right in one: a file has one circuit."
+    if spot.text.is_block and spot.word in DECLARING:
+        return "The gates of a splice are applications alone: what they name is declared where their circuit is opened."
     wanted = wanted_at(spot.text, spot.offset)
     if not wanted:
         return None
@@ -181,12 +190,13 @@ def _function(spot: _Spot) -> Optional[str]:
 
 def _unknown(spot: _Spot) -> Optional[str]:
     name = spot.word
+    text = " of the text with which the circuit is opened" if spot.text.is_block else ""
     if name in LIBRARY and not spot.text.includes_library:
-        return f'`{name}` is a gate of the library: put `include "qelib1.inc";` behind the first line.'
+        return f'`{name}` is a gate of the library: put `include "qelib1.inc";` behind the first line{text}.'
     if name in BODIES:
         return (
-            f"`{name}` is not in pathsum's qelib1.inc. This defines it, up to a global phase; put it behind the include:\n"
-            f"    {BODIES[name]}"
+            f"`{name}` is not in pathsum's qelib1.inc. This defines it, up to a global phase; put it behind the "
+            f"include{text}:\n    {BODIES[name]}"
         )
     known = sorted(spot.text.names() | (set(LIBRARY) if spot.text.includes_library else set()))
     close = difflib.get_close_matches(name, known, 1, 0.6)
@@ -263,9 +273,11 @@ ADVICE: Dict[str, Callable[[_Spot], Optional[str]]] = {
 }
 
 
-def fault_of(name: str, line: int, column: int, circuits: Sequence[Circuit]) -> Fault:
+def fault_of(
+    name: str, line: int, column: int, circuits: Sequence[Circuit], opened: Optional[Circuit] = None
+) -> Fault:
     """The fault at a line and column of the joined input, in the file in which it stands. Where a text ends too soon its
-    place is behind the last token."""
+    place is behind the last token. For the gates of a splice, `opened` is the text with which their circuit was opened."""
     circuit = circuits[0]
     of_first = circuit.joined.count(b"\n")
     # (the end of the first text is the front of the separator's line)
@@ -274,7 +286,7 @@ def fault_of(name: str, line: int, column: int, circuits: Sequence[Circuit]) -> 
     message = MEANINGS.get(name, "the program refuses this")
     if name == "Widths":
         return Fault(name, circuit.name, line, column, "", message, _widths(circuits))
-    spot = _Spot(circuit, line, column)
+    spot = _Spot(circuit, line, column, opened)
     if name in ("Syntax", "Version") and spot.at_end:
         message = "the text ends too soon"
     elif name == "Syntax" and spot.word:

@@ -50,7 +50,7 @@ class NotKnownError(ProgramError):
 
 
 @dataclass(frozen=True)
-class _Asking:
+class Asking:
     """A question and how it is asked."""
 
     question: str
@@ -121,24 +121,29 @@ class _Asking:
         refused = REFUSED.fullmatch(line)
         if reply.status == 65 and refused:
             return CircuitError(fault_of(refused[1], int(refused[2]), int(refused[3]), self.circuits))
-        if reply.status == 64:
-            return NotKnownError(f"the program does not know the words of this question ({self.question})")
-        if reply.status == 68:
-            return TooLongError(f"the circuits together have more than {LONGEST:,} bytes")
-        if reply.status == 70 and line == "memory":
-            return ProgramError("the program ran out of memory")
-        if reply.status < 0:
-            return ProgramError(f"the program was ended by signal {-reply.status}, for want of memory perhaps")
-        if find_program().proved is False and reply.status == 70:
-            return ProgramError("there is no proved program here, and the unproved build gave no answer, as told above")
-        complaint = reply.complaint.decode("utf-8", "replace").strip().split("\n")[-1]
-        said = complaint or line[:200] or "nothing"
-        return ProgramError(f"the program gave no answer: it ended with status {reply.status} and said: {said}")
+        return no_answer(self.question, "the circuits together have", reply, line)
 
 
-def _asking(question: str, first: Source, second: Source, to_qasm: ToQasm, timeout: Any, cancel: Any) -> _Asking:
+def no_answer(question: str, too_long: str, reply: Reply, line: str) -> PathsumError:
+    """Why a reply, of which this is the first line, is no answer, where no text was refused."""
+    if reply.status == 64:
+        return NotKnownError(f"the program does not know the words of this question ({question})")
+    if reply.status == 68:
+        return TooLongError(f"{too_long} more than {LONGEST:,} bytes")
+    if reply.status == 70 and line == "memory":
+        return ProgramError("the program ran out of memory")
+    if reply.status < 0:
+        return ProgramError(f"the program was ended by signal {-reply.status}, for want of memory perhaps")
+    if find_program().proved is False and reply.status == 70:
+        return ProgramError("there is no proved program here, and the unproved build gave no answer, as told above")
+    complaint = reply.complaint.decode("utf-8", "replace").strip().split("\n")[-1]
+    said = complaint or line[:200] or "nothing"
+    return ProgramError(f"the program gave no answer: it ended with status {reply.status} and said: {said}")
+
+
+def _asking(question: str, first: Source, second: Source, to_qasm: ToQasm, timeout: Any, cancel: Any) -> Asking:
     circuits = (circuit_of(first, "first circuit", to_qasm), circuit_of(second, "second circuit", to_qasm))
-    return _Asking(question, circuits, timeout, cancel)
+    return Asking(question, circuits, timeout, cancel)
 
 
 def same(
@@ -248,7 +253,7 @@ def compare(
 
 def _of_the_rest(circuits: List[Circuit], timeout: Optional[float], cancel: Optional[threading.Event]) -> Verdict:
     """What is found of the parts that the circuits do not share."""
-    asking = _Asking("local", tuple(circuits), timeout, cancel)
+    asking = Asking("local", tuple(circuits), timeout, cancel)
     answer = cast(Verdict, asking.read(asking.ask(("same", "local"))))
     front = answer.behind if isinstance(answer, No) else None
     return dataclasses.replace(answer, shared=shared_of(*circuits, told=front))

@@ -64,13 +64,15 @@ def registers_of(data: bytes) -> Tuple[Register, ...]:
 
 
 class Text:
-    """What an explanation needs of a text; on one that is not accepted, as far as that goes."""
+    """What an explanation needs of a text; on one that is not accepted, as far as that goes. A block of a script has what it
+    names from the text with which its circuit was opened."""
 
-    def __init__(self, data: bytes) -> None:
+    def __init__(self, data: bytes, opened: Optional[bytes] = None) -> None:
         self.data = data
         self.tokens = tokens(data)
-        self.registers = registers_of(data)
-        words = [token.text for token in self.tokens]
+        self.is_block = opened is not None
+        self.registers = registers_of(data if opened is None else opened)
+        words = [token.text for token in (self.tokens if opened is None else tokens(opened))]
         self.gates = {name for word, name in zip(words, words[1:]) if word == "gate"}
         self.includes_library = "include" in words
 
@@ -132,11 +134,13 @@ class _Grammar:
             self.need(self.sign("]"))
         elif self.sign("gate"):
             return self.definition()
-        elif self.sign("barrier"):
-            self.several(self.argument)
         else:
-            self.application(self.argument)
+            return self.applied(self.argument)
         self.need(self.sign(";"))
+
+    def block(self) -> None:
+        while not self.want("the end of the block", self.now.kind == "end"):
+            self.applied(self.argument)
 
     def definition(self) -> None:
         self.need(self.name())
@@ -147,11 +151,14 @@ class _Grammar:
         self.several(self.bare)
         self.need(self.sign("{"))
         while not self.sign("}"):
-            if self.sign("barrier"):
-                self.several(self.bare)
-            else:
-                self.application(self.bare)
-            self.need(self.sign(";"))
+            self.applied(self.bare)
+
+    def applied(self, argument) -> None:  # type: ignore[no-untyped-def]
+        if self.sign("barrier"):
+            self.several(argument)
+        else:
+            self.application(argument)
+        self.need(self.sign(";"))
 
     def application(self, argument) -> None:  # type: ignore[no-untyped-def]
         self.need(self.want("a gate's name", self.now.text in ("U", "CX") or self.now.is_name()))
@@ -201,7 +208,7 @@ def wanted_at(text: Text, offset: int) -> List[str]:
     """What could have stood at the place where the reading of a text ends; empty where that isn't known."""
     grammar = _Grammar(text.tokens, len(text.data))
     try:
-        grammar.text()
+        grammar.block() if text.is_block else grammar.text()
     except (_Stopped, RecursionError):
         if grammar.now.start == offset:
             return grammar.wanted

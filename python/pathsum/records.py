@@ -1,10 +1,11 @@
 """Answers and errors as plain records, which docs/JSON.md describes."""
 from __future__ import annotations
 
-from typing import Any, Dict, Optional
+from typing import Any, Dict, Optional, Sequence
 
-from .answers import Accepted, Answer, Input, Left, No, Rejected, RemainingSum, Shared, Unknown, Yes
-from .errors import CircuitError, Fault, PathsumError
+from .answers import Accepted, Answer, Input, Left, Limit, No, Rejected, RemainingSum, Shared, Unknown, Yes
+from .errors import Fault, PathsumError, RefusedError
+from .scripts import Response
 
 SCHEMA = 1
 """Rises where a field changes its meaning or goes; new fields alone do not raise it."""
@@ -32,8 +33,7 @@ def record_of(answer: Answer) -> Dict[str, Any]:
         record["phase"] = None if answer.phase is None else str(answer.phase)
     elif isinstance(answer, Unknown):
         record["remaining"] = None if answer.remaining is None else _sum(answer.remaining)
-        limit = answer.limit
-        record["limit"] = limit and {"what": limit.what, "count": limit.count, "allowed": limit.allowed}
+        record["limit"] = answer.limit and _limit(answer.limit)
     elif isinstance(answer, Rejected):
         record.update(number=answer.number, reason=answer.reason, source=answer.source)
     elif isinstance(answer, Left):
@@ -57,6 +57,10 @@ def _sum(remaining: RemainingSum) -> Dict[str, Any]:
     }
 
 
+def _limit(limit: Limit) -> Dict[str, Any]:
+    return {"what": limit.what, "count": limit.count, "allowed": limit.allowed}
+
+
 def _shared(shared: Optional[Shared]) -> Optional[Dict[str, Any]]:
     return shared and {
         "front": shared.front,
@@ -69,7 +73,7 @@ def _shared(shared: Optional[Shared]) -> Optional[Dict[str, Any]]:
 
 def error_record(error: PathsumError) -> Dict[str, Any]:
     """What stands in the place of an answer where there is none."""
-    fault = error.fault if isinstance(error, CircuitError) else None
+    fault = error.fault if isinstance(error, RefusedError) else None
     return {
         "schema": SCHEMA,
         "verdict": "refused" if fault else "error",
@@ -89,3 +93,39 @@ def fault_record(fault: Fault) -> Dict[str, Any]:
         "message": fault.message,
         "advice": fault.advice,
     }
+
+
+NUMBERS = ("version", "missing", "latest", "length", "entry", "first_qubits", "second_qubits", "total")
+"""The fields of a response that stand in its record as they are, where the reply has them."""
+
+
+def response_record(response: Response) -> Dict[str, Any]:
+    record: Dict[str, Any] = {
+        "schema": SCHEMA,
+        "line": response.command.line,
+        "session": response.session,
+        "command": str(response.command),
+        "verdict": response.verdict,
+        "status": response.status,
+        "kind": response.kind,
+        "raw": response.raw,
+    }
+    record.update({name: getattr(response, name) for name in NUMBERS if getattr(response, name) is not None})
+    if response.earlier is not None:
+        record["earlier"] = response.earlier.line
+    if response.items is not None:
+        record["items"] = [list(item) for item in response.items]
+    if response.kind == "sum":
+        record["sum"] = response.sum and _sum(response.sum)
+        record["limit"] = response.limit and _limit(response.limit)
+    if response.answer is not None:
+        record["answer"] = record_of(response.answer)
+    if response.fault is not None:
+        record["fault"] = fault_record(response.fault)
+    return record
+
+
+def script_record(responses: Sequence[Response], counts: Dict[str, int], left: int, status: int) -> Dict[str, Any]:
+    """What came of a script: of `left` commands nothing, as the journal was full."""
+    commands = [response_record(response) for response in responses]
+    return {"schema": SCHEMA, "commands": commands, "counts": counts, "left": left, "status": status}

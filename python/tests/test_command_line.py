@@ -11,7 +11,10 @@ import time
 import unittest
 from pathlib import Path
 
+from pathsum.scripts import PATTERNS
+
 from .gates import ROOT
+from .stand_in import StandIns, knows
 
 TOOL = ROOT / "tools/pathsum"
 EXAMPLES = ROOT / "examples"
@@ -262,6 +265,94 @@ class CommandLine(unittest.TestCase):
                 )
                 self.assertEqual((child.returncode, child.stdout), (70, ""))
                 self.assertRegex(child.stderr, rf"\Apathsum: [^\n]*{said}[^\n]*\n\Z")
+
+
+class Edits(StandIns):
+    """`edit`: the status is that of the worst that came of a command, and each is told at its line."""
+
+    OPENED = f"0 open a\n{ONE}.\n0 open x\n{X}.\n0 open hth\n{HTH}.\n"
+    YES, NO, UNKNOWN, BAD = "0 ask a 1 a 1\n", "0 ask a 1 x 1\n", "0 ask a 1 hth 1\n", "0 splice a 1 0 0\nfoo q[0];\n.\n"
+
+    @unittest.skipUnless(knows("run", "0"), "the program does not know these words yet")
+    def test_statuses(self):
+        for asked, status, summary in [
+            ("", 0, "3 commands: 3 done"),
+            (self.YES, 0, "4 commands: 3 done, 1 yes"),
+            (self.YES + self.NO + self.UNKNOWN, 1, "6 commands: 3 done, 1 yes, 1 no, 1 unknown"),
+            (self.UNKNOWN + self.YES, 2, "5 commands: 3 done, 1 yes, 1 unknown"),
+            (self.NO + self.BAD, 65, "5 commands: 3 done, 1 no, 1 refused"),
+        ]:
+            with self.subTest(asked):
+                found = run("edit", "-", given=self.OPENED + asked)
+                self.assertEqual((found[0], found[2], found[1].split("\n")[-2]), (status, "", summary))
+
+    @unittest.skipUnless(knows("run", "0"), "the program does not know these words yet")
+    def test_lines(self):
+        status, output, _ = run("edit", "-", given=self.OPENED + self.BAD + self.NO)
+        self.assertEqual(output.split("\n")[0], "done    line 1: 0 open a: version 1")
+        self.assertIn("\nrefused line 20: 0 splice a 1 0 0: the block has a fault\n    standard input:21:1: Unknown: ", output)
+        self.assertIn("\n        foo q[0];\n        ^\n", output)
+        self.assertIn("\nno      line 23: 0 ask a 1 x 1: At the basis input q[0]=0 the two circuits", output)
+        proof = "0 prove a 1 a 1\n"
+        self.assertNotIn("pathsum 1", run("edit", "-", given=self.OPENED + proof)[1])
+        self.assertIn("\n    pathsum 1\n    id a\n", run("edit", "-", "--full", given=self.OPENED + proof)[1])
+
+    @unittest.skipUnless(knows("run", "0"), "the program does not know these words yet")
+    def test_json(self):
+        given = self.OPENED + self.YES + self.NO + self.BAD + "0 show x 1\n0 sum x 1\n0 show x 2\n0 retire b 1\n0 open a\n.\n"
+        status, output, complaint = run("edit", "-", "--json", given=given)
+        record = json.loads(output)
+        self.assertEqual((status, complaint, record["status"], record["left"]), (65, "", 65, 0))
+        self.assertEqual(record["counts"], {"done": 5, "yes": 1, "no": 1, "unknown": 0, "refused": 4})
+        opened, _, _, yes, no, bad, shown, summed, version, circuit, taken = record["commands"]
+        self.assertEqual(opened, {"schema": 1, "line": 1, "session": 0, "command": "0 open a", "verdict": "done", "status": 0,
+                                  "kind": "opened", "raw": "opened 1 missing 0", "version": 1, "missing": 0})
+        self.assertEqual((yes["verdict"], yes["answer"]["first"], yes["answer"]["second"]), ("yes", "a 1", "a 1"))
+        self.assertEqual((no["status"], no["answer"]["input"]["bits"]), (1, "0"))
+        self.assertEqual((bad["kind"], bad["status"], bad["fault"]["line"], bad["fault"]["name"]), ("bad", 65, 23, "Unknown"))
+        self.assertEqual(shown["items"], [["U 1073741824,0,1073741824 0"]])
+        self.assertEqual((summed["sum"]["text"], summed["limit"]), ("k=0 m=0 P=0 f=1+x0", None))
+        self.assertEqual((version["kind"], version["latest"], circuit["kind"]), ("no version", 1, "no circuit"))
+        self.assertEqual((taken["kind"], taken["entry"], taken["earlier"]), ("name taken", 0, 1))
+        section = (ROOT / "docs/JSON.md").read_text().split("## A script")[1]
+        told = set(re.findall(r"`(\w+)`", section))
+        self.assertLessEqual({*record, *(field for each in record["commands"] for field in each)}, told)
+        self.assertLessEqual({*PATTERNS, *(each["kind"] for each in record["commands"])}, set(re.findall(r"`([\w ]+)`", section)))
+
+    def test_wrong_uses(self):
+        for status, words, said in [
+            (64, ("edit",), r"pathsum: [^\n]+"),
+            (64, ("edit", "a", "b"), r"pathsum: [^\n]+"),
+            (66, ("edit", "missing.script"), r"pathsum: missing.script: there is no such file"),
+            (66, ("edit", ROOT), r"pathsum: [^\n]+ is a directory, and a script is a file"),
+        ]:
+            with self.subTest(words):
+                found = run(*words)
+                self.assertEqual(found[:2], (status, ""))
+                self.assertRegex(found[2], rf"\A{said}\n\Z")
+
+    def test_a_script_that_is_refused(self):
+        self.stand_in(run_0=("input Form 2:1", 65))
+        status, output, complaint = run("edit", "-", given="# c\n0 shew a 1\n")
+        self.assertEqual((status, output), (65, ""))
+        self.assertTrue(complaint.startswith("standard input:2:1: Form: `shew` is no command\n    0 shew a 1\n    ^\nIs `show` meant?"))
+        record = json.loads(run("edit", "-", "--json", given="# c\n0 shew a 1\n")[1])
+        self.assertEqual((record["verdict"], record["status"], record["fault"]["line"]), ("refused", 65, 2))
+
+    def test_a_full_journal(self):
+        self.stand_in(run_0=("0 no circuit\nfull", 69))
+        given = "0 show a 1\n0 show a 1\n0 show a 1\n"
+        status, output, complaint = run("edit", "-", given=given)
+        self.assertEqual((status, output), (69, "refused line 1: 0 show a 1: there is no circuit `a`\n1 command: 1 refused\n"))
+        self.assertRegex(complaint, r"\Apathsum: [^\n]+ 2 commands have no reply[^\n]+\n\Z")
+        record = json.loads(run("edit", "-", "--json", given=given)[1])
+        self.assertEqual((record["status"], record["left"], len(record["commands"])), (69, 2, 1))
+
+    def test_a_time_limit(self):
+        self.take("#!/bin/sh\nexec sleep 60\n")
+        status, output, complaint = run("edit", "-", "--timeout", "0.5", given="0 show a 1\n")
+        self.assertEqual((status, output), (75, ""))
+        self.assertRegex(complaint, r"\Apathsum: [^\n]+\n\Z")
 
 
 if __name__ == "__main__":

@@ -12,6 +12,7 @@ import pathsum
 from pathsum.program import ask
 
 from .gates import ROOT
+from .stand_in import knows
 
 
 def blocks(document, language):
@@ -61,12 +62,27 @@ class Readme(unittest.TestCase):
             self.skipTest("this Python makes no environments with pip")
         self.assertIn("1 pair: 1 yes\n", self.run_block(pipeline))
 
-    def test_python(self):
-        found = blocks("README.md", "python")
-        self.assertEqual(len(found), 1)
-        child = subprocess.run([sys.executable, "-c", found[0]], cwd=ROOT / "python", capture_output=True, text=True)
+    def run_python(self, *found):
+        child = subprocess.run([sys.executable, "-c", "".join(found)], cwd=ROOT / "python", capture_output=True, text=True)
         self.assertEqual((child.returncode, child.stderr), (0, ""))
-        self.assertTrue(child.stdout.startswith("yes\n"))
+        return child.stdout
+
+    def test_python(self):
+        asking, editing = blocks("README.md", "python")
+        self.assertTrue(self.run_python(asking).startswith("yes\n"))
+        if knows("run", "0"):
+            self.assertTrue(self.run_python(asking, editing).endswith("\nyes\n"))
+
+    @unittest.skipUnless(knows("run", "0"), "the program does not know these words yet")
+    def test_edits(self):
+        """The replies are those that README.md shows, and each script of the examples is one."""
+        (block,) = blocks("README.md", "text")
+        asked, _, replies = block.partition("\n")
+        self.assertEqual(self.run_block(f"{asked[len('$ '):]} || test $? = 1"), replies)
+        names = re.findall(r"^\| (\w+\.script) \|", (ROOT / "examples/README.md").read_text(), re.MULTILINE)
+        self.assertIn("editing.script", names)
+        for path in ROOT.glob("examples/*.script"):
+            self.assertEqual(len(pathsum.run(path)), len(pathsum.commands_of(path)))
 
     def test_the_program_document(self):
         lines = re.findall(r"^    (.*)$", (ROOT / "docs/PROGRAM.md").read_text(), re.MULTILINE)

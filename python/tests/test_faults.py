@@ -92,7 +92,8 @@ class Faults(unittest.TestCase):
                 self.check(fault, case)
 
     def test_all_are_met(self):
-        self.assertEqual({case[0] for case in CASES} | {"Separator"}, set(MEANINGS))
+        of_scripts = {"Form", "Session", "Block"}
+        self.assertEqual({case[0] for case in CASES} | {"Separator"} | of_scripts, set(MEANINGS))
 
     def test_shown(self):
         self.assertEqual(

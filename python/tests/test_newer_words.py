@@ -1,56 +1,23 @@
 """Questions that only newer programs know: with one that doesn't, nothing is said of them; with a stand-in that does, the
 answers are read and told."""
-import os
-import sys
-import tempfile
 import unittest
 from fractions import Fraction
-from pathlib import Path
-from unittest import mock
 
 import pathsum
-from pathsum import program
 from pathsum.circuits import Circuit
 from pathsum.sharing import shared_of
 
+from .stand_in import StandIns, knows
 from .test_edits import BITS, adder, lines
 
 HEAD = 'OPENQASM 2.0;\ninclude "qelib1.inc";\nqreg q[2];\n'
-STAND_IN = """#!{python}
-import subprocess, sys
-given = sys.stdin.buffer.read()
-replies = {replies!r}
-words = " ".join(sys.argv[1:])
-if words in replies:
-    line, status = replies[words]
-    print(line)
-    sys.exit(status)
-sys.exit(subprocess.run([{program!r}, *sys.argv[1:]], input=given).returncode)
-"""
 
 
 def answers(*words):
-    """Whether the program knows these words."""
-    try:
-        return program.ask(words, (HEAD + "====\n" + HEAD).encode()).status != 64
-    except pathsum.PathsumError:
-        return False
+    return knows(*words, given=HEAD + "====\n" + HEAD)
 
 
-class StandIn(unittest.TestCase):
-    def stand_in(self, **replies):
-        folder = tempfile.TemporaryDirectory()
-        self.addCleanup(folder.cleanup)
-        real = program.find_program().path
-        known = {"same local": ("words", 64), "same phase": ("words", 64)}
-        known.update({words.replace("_", " "): reply for words, reply in replies.items()})
-        path = Path(folder.name, "stand_in")
-        path.write_text(STAND_IN.format(python=sys.executable, replies=known, program=real))
-        path.chmod(0o755)
-        patch = mock.patch.dict(os.environ, {program.VARIABLE: str(path)})
-        patch.start()
-        self.addCleanup(patch.stop)
-
+class StandIn(StandIns):
     def test_not_known(self):
         self.stand_in()
         answer = pathsum.compare(HEAD + "rx(pi) q[0];\n", HEAD + "x q[0];\n")
