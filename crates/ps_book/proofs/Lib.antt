@@ -16,4 +16,3 @@ pub mod Summed
 pub mod Concluding
 pub mod Replying
 pub mod Identities
-pub mod Terms
