@@ -14,12 +14,7 @@ use std::sync::Arc;
 
 impl Service {
     /// Files a record at the segment that a seat has a claim on, by entry `number`, or tells whether the claim stands.
-    pub(crate) fn publish(
-        &mut self,
-        number: u32,
-        seat: u32,
-        kept: &Option<Arc<Record>>,
-    ) -> Reply
+    pub(crate) fn publish(&mut self, number: u32, seat: u32, kept: &Option<Arc<Record>>) -> Reply
         requires { seat < 64 }
         ensures leaves { (t : State) → Stands (fields_of self.old) t → Leaves (λ new. PublishesOr t number seat kept.now result new) (fields_of self.new) }
         ensures plain { is_plain result ≡ true }
@@ -79,8 +74,7 @@ impl Service {
 
     /// Whether a record is of the items of a claimed segment, on the qubits of its circuit.
     fn is_record_of(&self, claim: &Claim, record: &Record) -> bool {
-        record.n == self.qubits_at(&claim.place)
-            && self.is_run(claim.node, record.items.as_slice())
+        record.n == self.qubits_at(&claim.place) && self.is_run(claim.node, record.items.as_slice())
     }
 
     /// The total that was refused is noted in the seat's pin, where it has one.

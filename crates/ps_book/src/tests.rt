@@ -66,7 +66,18 @@ fn splice(
 ) -> Result<Reply, AllocError> {
     let block = block(alloc, line)?;
     let name = name(rt, b"g");
-    Ok(turn(rt, book, 1, Cmd::Splice { name, base, from, to, block }))
+    Ok(turn(
+        rt,
+        book,
+        1,
+        Cmd::Splice {
+            name,
+            base,
+            from,
+            to,
+            block,
+        },
+    ))
 }
 
 #[test]
@@ -75,21 +86,145 @@ fn an_editing_session(rt: HostRuntime) -> Result<(), Fail> {
     let mut book = Book::new(alloc)?;
     let g = name(&rt, b"g");
     let two = text(alloc, b"qreg q[2];\n", 0, b"")?;
-    assert!(rt; matches!(turn(&rt, &mut book, 1, Cmd::Open { name: g, text: two }), Reply::Opened { missing: 0 }));
-    assert!(rt; matches!(splice(&rt, alloc, &mut book, 1, 0, 0, b"cx q[0],q[1];\n")?, Reply::Committed { version: 2, missing: 1 }));
-    assert!(rt; matches!(turn(&rt, &mut book, 1, Cmd::Read { place: place(&rt, b"g", 2) }), Reply::Shown(_)));
+    assert!(rt;
+        matches!(
+            turn(&rt, &mut book, 1, Cmd::Open { name: g, text: two }),
+            Reply::Opened { missing: 0 }
+        )
+    );
+    assert!(rt;
+        matches!(
+            splice(&rt, alloc, &mut book, 1, 0, 0, b"cx q[0],q[1];\n")?,
+            Reply::Committed {
+                version: 2,
+                missing: 1
+            }
+        )
+    );
+    assert!(rt;
+        matches!(
+            turn(
+                &rt,
+                &mut book,
+                1,
+                Cmd::Read {
+                    place: place(&rt, b"g", 2)
+                }
+            ),
+            Reply::Shown(_)
+        )
+    );
     assert!(rt; matches!(splice(&rt, alloc, &mut book, 2, 0, 0, b"")?, Reply::Nothing));
-    assert!(rt; matches!(splice(&rt, alloc, &mut book, 2, 2, 1, b"x q[0];\n")?, Reply::Span(1)));
-    assert!(rt; matches!(turn(&rt, &mut book, 1, Cmd::Retire { name: g, version: 2 }), Reply::IsLatest));
-    assert!(rt; matches!(turn(&rt, &mut book, 1, Cmd::Retire { name: g, version: 1 }), Reply::Retired { claims: 0 }));
-    assert!(rt; matches!(turn(&rt, &mut book, 1, Cmd::Retire { name: g, version: 1 }), Reply::WasRetired(6)));
-    assert!(rt; matches!(splice(&rt, alloc, &mut book, 1, 0, 0, b"x q[0];\n")?, Reply::Stale(2)));
-    assert!(rt; matches!(turn(&rt, &mut book, 1, Cmd::Read { place: place(&rt, b"g", 1) }), Reply::WasRetired(6)));
-    assert!(rt; matches!(turn(&rt, &mut book, 1, Cmd::Read { place: place(&rt, b"h", 1) }), Reply::NoCircuit));
-    assert!(rt; matches!(turn(&rt, &mut book, 1, Cmd::Read { place: place(&rt, b"g", 9) }), Reply::NoVersion(2)));
-    assert!(rt; matches!(splice(&rt, alloc, &mut book, 2, 0, 1, b"rx(pi/3) q[0];\n")?, Reply::Bad { name: FaultName::NotDyadic, line: 1, column: 4 }));
+    assert!(rt;
+        matches!(
+            splice(&rt, alloc, &mut book, 2, 2, 1, b"x q[0];\n")?,
+            Reply::Span(1)
+        )
+    );
+    assert!(rt;
+        matches!(
+            turn(
+                &rt,
+                &mut book,
+                1,
+                Cmd::Retire {
+                    name: g,
+                    version: 2
+                }
+            ),
+            Reply::IsLatest
+        )
+    );
+    assert!(rt;
+        matches!(
+            turn(
+                &rt,
+                &mut book,
+                1,
+                Cmd::Retire {
+                    name: g,
+                    version: 1
+                }
+            ),
+            Reply::Retired { claims: 0 }
+        )
+    );
+    assert!(rt;
+        matches!(
+            turn(
+                &rt,
+                &mut book,
+                1,
+                Cmd::Retire {
+                    name: g,
+                    version: 1
+                }
+            ),
+            Reply::WasRetired(6)
+        )
+    );
+    assert!(rt;
+        matches!(
+            splice(&rt, alloc, &mut book, 1, 0, 0, b"x q[0];\n")?,
+            Reply::Stale(2)
+        )
+    );
+    assert!(rt;
+        matches!(
+            turn(
+                &rt,
+                &mut book,
+                1,
+                Cmd::Read {
+                    place: place(&rt, b"g", 1)
+                }
+            ),
+            Reply::WasRetired(6)
+        )
+    );
+    assert!(rt;
+        matches!(
+            turn(
+                &rt,
+                &mut book,
+                1,
+                Cmd::Read {
+                    place: place(&rt, b"h", 1)
+                }
+            ),
+            Reply::NoCircuit
+        )
+    );
+    assert!(rt;
+        matches!(
+            turn(
+                &rt,
+                &mut book,
+                1,
+                Cmd::Read {
+                    place: place(&rt, b"g", 9)
+                }
+            ),
+            Reply::NoVersion(2)
+        )
+    );
+    assert!(rt;
+        matches!(
+            splice(&rt, alloc, &mut book, 2, 0, 1, b"rx(pi/3) q[0];\n")?,
+            Reply::Bad {
+                name: FaultName::NotDyadic,
+                line: 1,
+                column: 4
+            }
+        )
+    );
     let two = text(alloc, b"qreg q[2];\n", 0, b"")?;
-    assert!(rt; matches!(turn(&rt, &mut book, 1, Cmd::Open { name: g, text: two }), Reply::NameTaken(0)));
+    assert!(rt;
+        matches!(
+            turn(&rt, &mut book, 1, Cmd::Open { name: g, text: two }),
+            Reply::NameTaken(0)
+        )
+    );
     assert_eq!(rt; book.missing(g, 2), Some(1));
     assert_eq!(rt; book.missing(g, 3), None);
     assert_eq!(rt; book.into_journal().len(), 14);
@@ -100,23 +235,112 @@ fn an_editing_session(rt: HostRuntime) -> Result<(), Fail> {
 fn turns_of_one_seat(rt: HostRuntime) -> Result<(), Fail> {
     let alloc = rt.alloc();
     let mut book = Book::new(alloc)?;
-    assert!(rt; matches!(turn(&rt, &mut book, 1, Cmd::Next { pinned: true }), Reply::NoPin));
-    assert!(rt; matches!(turn(&rt, &mut book, 1, Cmd::Publish { kept: None }), Reply::NoClaim));
-    assert!(rt; matches!(turn(&rt, &mut book, 1, Cmd::Answer { outcome: Outcome::Done }), Reply::NoPin));
-    assert!(rt; matches!(turn(&rt, &mut book, 1, Cmd::Next { pinned: false }), Reply::Idle));
+    assert!(rt;
+        matches!(
+            turn(&rt, &mut book, 1, Cmd::Next { pinned: true }),
+            Reply::NoPin
+        )
+    );
+    assert!(rt;
+        matches!(
+            turn(&rt, &mut book, 1, Cmd::Publish { kept: None }),
+            Reply::NoClaim
+        )
+    );
+    assert!(rt;
+        matches!(
+            turn(
+                &rt,
+                &mut book,
+                1,
+                Cmd::Answer {
+                    outcome: Outcome::Done
+                }
+            ),
+            Reply::NoPin
+        )
+    );
+    assert!(rt;
+        matches!(
+            turn(&rt, &mut book, 1, Cmd::Next { pinned: false }),
+            Reply::Idle
+        )
+    );
     let a = name(&rt, b"a");
     let first = place(&rt, b"a", 1);
     let one = text(alloc, b"qreg q[1];\n", 2, b"h q[0];\n")?;
-    assert!(rt; matches!(turn(&rt, &mut book, 1, Cmd::Open { name: a, text: one }), Reply::Opened { missing: 1 }));
+    assert!(rt;
+        matches!(
+            turn(&rt, &mut book, 1, Cmd::Open { name: a, text: one }),
+            Reply::Opened { missing: 1 }
+        )
+    );
     match turn(&rt, &mut book, 1, Cmd::Next { pinned: false }) {
-        Reply::Task(task) => assert!(rt; task.get().claim == 5 && task.get().seat == 1 && task.get().n == 1),
+        Reply::Task(task) => assert!(rt;
+            task.get().claim == 5 && task.get().seat == 1 && task.get().n == 1
+        ),
         _ => assert!(rt; false),
     }
-    assert!(rt; matches!(turn(&rt, &mut book, 1, Cmd::Publish { kept: None }), Reply::Stands));
-    assert!(rt; matches!(turn(&rt, &mut book, 1, Cmd::Pin { first, second: None }), Reply::Pinned));
-    assert!(rt; matches!(turn(&rt, &mut book, 1, Cmd::Sum { outcome: Outcome::Done }), Reply::Unsettled(1)));
-    assert!(rt; matches!(turn(&rt, &mut book, 1, Cmd::Pin { first, second: None }), Reply::Pinned));
-    assert!(rt; matches!(turn(&rt, &mut book, 1, Cmd::Sum { outcome: Outcome::Crowded }), Reply::NotCrowded));
+    assert!(rt;
+        matches!(
+            turn(&rt, &mut book, 1, Cmd::Publish { kept: None }),
+            Reply::Stands
+        )
+    );
+    assert!(rt;
+        matches!(
+            turn(
+                &rt,
+                &mut book,
+                1,
+                Cmd::Pin {
+                    first,
+                    second: None
+                }
+            ),
+            Reply::Pinned
+        )
+    );
+    assert!(rt;
+        matches!(
+            turn(
+                &rt,
+                &mut book,
+                1,
+                Cmd::Sum {
+                    outcome: Outcome::Done
+                }
+            ),
+            Reply::Unsettled(1)
+        )
+    );
+    assert!(rt;
+        matches!(
+            turn(
+                &rt,
+                &mut book,
+                1,
+                Cmd::Pin {
+                    first,
+                    second: None
+                }
+            ),
+            Reply::Pinned
+        )
+    );
+    assert!(rt;
+        matches!(
+            turn(
+                &rt,
+                &mut book,
+                1,
+                Cmd::Sum {
+                    outcome: Outcome::Crowded
+                }
+            ),
+            Reply::NotCrowded
+        )
+    );
     Ok(())
 }
 
@@ -124,7 +348,14 @@ fn turns_of_one_seat(rt: HostRuntime) -> Result<(), Fail> {
 fn show_often(rt: &impl Abort, book: &mut Book, times: u32) -> u32 {
     let mut shown: u32 = 0;
     for _ in 0..times {
-        if let Reply::Shown(_) = turn(rt, book, 1, Cmd::Read { place: place(rt, b"g", 1) }) {
+        if let Reply::Shown(_) = turn(
+            rt,
+            book,
+            1,
+            Cmd::Read {
+                place: place(rt, b"g", 1),
+            },
+        ) {
             shown = shown.saturating_add(1);
         }
     }
@@ -137,11 +368,58 @@ fn limits_at_their_numbers(rt: HostRuntime) -> Result<(), Fail> {
     let mut book = Book::new(alloc)?;
     let g = name(&rt, b"g");
     let much = text(alloc, b"qreg q[64];\n", 1025, b"x q;\n")?;
-    assert!(rt; matches!(turn(&rt, &mut book, 1, Cmd::Open { name: g, text: much }), Reply::Bad { name: FaultName::TooMany, line: 1028, column: 1 }));
+    assert!(rt;
+        matches!(
+            turn(
+                &rt,
+                &mut book,
+                1,
+                Cmd::Open {
+                    name: g,
+                    text: much
+                }
+            ),
+            Reply::Bad {
+                name: FaultName::TooMany,
+                line: 1028,
+                column: 1
+            }
+        )
+    );
     let full = text(alloc, b"qreg q[64];\n", 1024, b"x q;\n")?;
-    assert!(rt; matches!(turn(&rt, &mut book, 1, Cmd::Open { name: g, text: full }), Reply::Opened { missing: 16383 }));
-    assert!(rt; matches!(splice(&rt, alloc, &mut book, 1, 0, 0, b"x q[0];\n")?, Reply::TooLong(65537)));
+    assert!(rt;
+        matches!(
+            turn(
+                &rt,
+                &mut book,
+                1,
+                Cmd::Open {
+                    name: g,
+                    text: full
+                }
+            ),
+            Reply::Opened { missing: 16383 }
+        )
+    );
+    assert!(rt;
+        matches!(
+            splice(&rt, alloc, &mut book, 1, 0, 0, b"x q[0];\n")?,
+            Reply::TooLong(65537)
+        )
+    );
     assert_eq!(rt; show_often(&rt, &mut book, 128), 128);
-    assert!(rt; matches!(turn(&rt, &mut book, 1, Cmd::Read { place: place(&rt, b"g", 1) }), Reply::NoRoom(8454144)));
+    assert!(rt;
+        matches!(
+            turn(
+                &rt,
+                &mut book,
+                1,
+                Cmd::Read {
+                    place: place(&rt, b"g", 1)
+                }
+            ),
+            Reply::NoRoom(8454144)
+        )
+    );
     Ok(())
 }

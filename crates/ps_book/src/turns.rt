@@ -29,15 +29,13 @@ impl Service {
                 to,
                 block,
             } => Told::plain(self.splice(*name, *base, *from, *to, block)),
-            Cmd::Retire { name, version } => Told::plain(
-                self.retire(
-                    number,
-                    &Place {
-                        name: *name,
-                        version: *version,
-                    },
-                ),
-            ),
+            Cmd::Retire { name, version } => Told::plain(self.retire(
+                number,
+                &Place {
+                    name: *name,
+                    version: *version,
+                },
+            )),
             Cmd::Pin { first, second } => Told::plain(self.pin(number, seat, *first, *second)),
             Cmd::Next { pinned } => self.next(number, seat, *pinned),
             Cmd::Publish { kept } => Told::plain(self.publish(number, seat, kept)),
@@ -50,7 +48,6 @@ impl Service {
 
 impl Object for Book {
     ghost use Rattle.ps_journal.specs.History.{IsLegal, nothing_is_legal};
-
     ghost use Rattle.ps_book.specs.Books.{entries, room_left};
 
     type Cmd = Cmd;
