@@ -29,13 +29,15 @@ bits_none p cs h = ap (claims_on p) (past 64 cs (omega (arith, h)))
     past zero (x ∷ xs) h = absurd (omega arith)
     past (suc n) (x ∷ xs) h = past n xs (omega arith)
 
-pub bits_more : (p : Place) (cs : List (Option Claim)) (i : ℕ) (x : Option Claim) (b : Bool) (n : ℕ) → length cs ≡ 64 → i < 64 → x ≡ get_or cs (63 - i) x → b ≡ is_on p x
+pub bits_more : (p : Place) (cs : List (Option Claim)) (i : ℕ) (x : Option Claim) (b : Bool) (n : ℕ) → length cs ≡ 64 → i < 64 → x ≡ get_or cs (63 - i) x
+    → b ≡ is_on p x
     → n ≡ claims_on p (drop (64 - i) cs) → n * 2 + bit_of b ≡ claims_on p (drop (64 - (i + 1)) cs)
 bits_more p cs i x b n l h e d was =
     let at : drop (63 - i) cs ≡ x ∷ drop (63 - i + 1) cs = drop_more cs (63 - i) x (omega (arith, l)) ∙ ap (λ y. y ∷ drop (63 - i + 1) cs) (sym e) in
     let next : claims_on p (drop (63 - i + 1) cs) ≡ claims_on p (drop (64 - i) cs) = ap (bits_from p cs) (omega arith) in
     let here : claims_on p (drop (64 - (i + 1)) cs) ≡ claims_on p (drop (63 - i) cs) = ap (bits_from p cs) (omega arith) in
-    let step : claims_on p (drop (63 - i) cs) ≡ bit_of (is_on p x) + 2 * claims_on p (drop (63 - i + 1) cs) = ap (claims_on p) at ∙ claims_step p x (drop (63 - i + 1) cs) in
+    let step : claims_on p (drop (63 - i) cs) ≡ bit_of (is_on p x) + 2 * claims_on p (drop (63 - i + 1) cs) =
+    ap (claims_on p) at ∙ claims_step p x (drop (63 - i + 1) cs) in
     let bit : bit_of b ≡ bit_of (is_on p x) = ap bit_of d in
     omega (arith, next, here, step, bit, was)
 
@@ -44,5 +46,7 @@ pub bits_fit : (n i : ℕ) → i < 64 → n < 2 ^ i → n < 2 ^ 63
 bits_fit n i h below = let low : i ≤ 63 = omega arith in let most : 2 ^ i ≤ 2 ^ 63 = pow_mono low in omega (arith, most)
 
 pub bits_below : (n i : ℕ) (b : Bool) → n < 2 ^ i → n * 2 + bit_of b < 2 ^ (i + 1)
-bits_below n i true h = let e : 2 ^ suc i ≡ 2 ^ i + 2 ^ i = omega arith in let same : 2 ^ (i + 1) ≡ 2 ^ suc i = ap (λ k. 2 ^ k) (omega arith) in omega (arith, e, same)
-bits_below n i false h = let e : 2 ^ suc i ≡ 2 ^ i + 2 ^ i = omega arith in let same : 2 ^ (i + 1) ≡ 2 ^ suc i = ap (λ k. 2 ^ k) (omega arith) in omega (arith, e, same)
+bits_below n i true h =
+    let e : 2 ^ suc i ≡ 2 ^ i + 2 ^ i = omega arith in let same : 2 ^ (i + 1) ≡ 2 ^ suc i = ap (λ k. 2 ^ k) (omega arith) in omega (arith, e, same)
+bits_below n i false h =
+    let e : 2 ^ suc i ≡ 2 ^ i + 2 ^ i = omega arith in let same : 2 ^ (i + 1) ≡ 2 ^ suc i = ap (λ k. 2 ^ k) (omega arith) in omega (arith, e, same)

@@ -66,7 +66,8 @@ module _ (f : Fields) (sound : IsSound f) (t : State) (p : Place) where
   version_told : (m : ℕ) → Some m ≡ held_questions.missing f.versions (held_at f.versions p) → (v : held.Version) × (held_at f.versions p ≡ Some v)
   version_told m e = by (held_at f.versions p) refl e
     where
-      by : (o : Option held.Version) → held_at f.versions p ≡ o → Some m ≡ held_questions.missing f.versions o → (v : held.Version) × (held_at f.versions p ≡ Some v)
+      by : (o : Option held.Version) → held_at f.versions p ≡ o → Some m ≡ held_questions.missing f.versions o
+          → (v : held.Version) × (held_at f.versions p ≡ Some v)
       by None q e = absurd (some_none m e)
       by (Some v) q e = (v, q)
 
@@ -79,7 +80,8 @@ module _ (f : Fields) (sound : IsSound f) (t : State) (p : Place) where
 
   -- a version is kept in the tables exactly where it is in the state
   kept_alike : (v : held.Version) → Stands f t → held_at f.versions p ≡ Some v → is_kept t.pins p (version_of f.items f.versions.nodes v) ≡ lives.is_kept v
-  kept_alike v s at = ap (λ b. is_none v.retired || b) (ap (λ ps. is_pinned ps p) s.pins ∙ pinned_counted p f.pins ∙ ap (nat_lt 0) (sym (sound.counted p v at)))
+  kept_alike v s at =
+      ap (λ b. is_none v.retired || b) (ap (λ ps. is_pinned ps p) s.pins ∙ pinned_counted p f.pins ∙ ap (nat_lt 0) (sym (sound.counted p v at)))
 
   few_missing : (v : held.Version) (m : ℕ) → held_at f.versions p ≡ Some v → Some m ≡ held_questions.missing f.versions (held_at f.versions p)
       → m ≤ length (segments_of (version_of f.items f.versions.nodes v).tree)
@@ -122,7 +124,8 @@ module _ (f : Fields) (sound : IsSound f) (t : State) (p : Place) where
         let h = finds_held f t s sound.tabled p v.0 v.1 in
         by c _ h.finds.circuit at h.finds.version none
       where
-        by : (c d : Circuit) {x : Version} → circuit_at t.circuits p.name ≡ Some d → circuit_at t.circuits p.name ≡ Some c → version_at d p.version ≡ Some x → version_at c p.version ≡ None → ⊥
+        by : (c d : Circuit) {x : Version} → circuit_at t.circuits p.name ≡ Some d → circuit_at t.circuits p.name ≡ Some c → version_at d p.version ≡ Some x
+            → version_at c p.version ≡ None → ⊥
         by c d {x} a b q r =
             let same : d ≡ c = cc in
             some_none x (sym (ap (λ y. version_at y p.version) (sym same) ∙ q) ∙ r)
@@ -146,7 +149,8 @@ module _ (f : Fields) (sound : IsSound f) (t : State) (p : Place) where
       by None a = absurd (∥∥₁_elim w nothing_prop (λ s. found_circuit m e s a))
       by (Some c) a = there c (version_at c p.version) a refl
 
-  found_none : Stands f t → None ≡ held_questions.missing f.versions (held_at f.versions p) → (c : Circuit) → circuit_at t.circuits p.name ≡ Some c → version_at c p.version ≡ None
+  found_none : Stands f t → None ≡ held_questions.missing f.versions (held_at f.versions p) → (c : Circuit) → circuit_at t.circuits p.name ≡ Some c
+      → version_at c p.version ≡ None
   found_none s e c at = by (version_at c p.version) refl
     where
       by : (o : Option Version) → version_at c p.version ≡ o → version_at c p.version ≡ None

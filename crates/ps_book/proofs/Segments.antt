@@ -17,7 +17,8 @@ whole_within (branch n l r) =
     (Contains-append_right (segments r) (branch n l r ∷ []) (branch n l r) (0, omega arith, refl))
 
 -- it is itself, or a segment of one of its sides
-side_or_whole : (n : Option ℕ) (l r s : Tree ℕ) → Contains (segments (branch n l r)) s → Contains (segments l) s ⊎ (Contains (segments r) s ⊎ (branch n l r ≡ s))
+side_or_whole : (n : Option ℕ) (l r s : Tree ℕ) → Contains (segments (branch n l r)) s
+    → Contains (segments l) s ⊎ (Contains (segments r) s ⊎ (branch n l r ≡ s))
 side_or_whole n l r s h = at (Contains-append_cases (segments l) (segments r ++ branch n l r ∷ []) s h)
   where
     behind : Contains (segments r) s ⊎ (branch n l r ≡ s) → Contains (segments l) s ⊎ (Contains (segments r) s ⊎ (branch n l r ≡ s))
@@ -42,7 +43,8 @@ segment_short : (t s : Tree ℕ) → Contains (segments t) s → length (run s) 
 segment_short (leaf n xs) s h = omega (arith, ap (λ u. length (run u)) (leaf_only n xs s h))
 segment_short (branch n l r) s h = at (side_or_whole n l r s h) (segment_short l s) (segment_short r s)
   where
-    at : Contains (segments l) s ⊎ (Contains (segments r) s ⊎ (branch n l r ≡ s)) → (Contains (segments l) s → length (run s) ≤ length (run l)) → (Contains (segments r) s → length (run s) ≤ length (run r))
+    at : Contains (segments l) s ⊎ (Contains (segments r) s ⊎ (branch n l r ≡ s)) → (Contains (segments l) s → length (run s) ≤ length (run l))
+        → (Contains (segments r) s → length (run s) ≤ length (run r))
         → length (run s) ≤ length (run (branch n l r))
     at (inl k) f g = omega (arith, f k, length-append (run l) (run r))
     at (inr (inl k)) f g = omega (arith, g k, length-append (run l) (run r))
@@ -72,11 +74,13 @@ module _ (items : List Item) (those : List Item) where
   has_right t l r n e k = record {
     segment = k.segment;
     within = subst (λ u. Contains (segments u) k.segment) (sym e)
-        (Contains-append_right (segments l) (segments r ++ branch n l r ∷ []) k.segment (Contains-append_left (segments r) (branch n l r ∷ []) k.segment k.within));
+        (Contains-append_right (segments l) (segments r ++ branch n l r ∷ []) k.segment
+        (Contains-append_left (segments r) (branch n l r ∷ []) k.segment k.within));
     same = k.same;
   }
 
-  pub has_side : (t l r : Tree ℕ) (n : Option ℕ) → t ≡ branch n l r → (those ≡ run_of_leaf items (run t) → ⊥) → HasRun items t those → HasRun items l those ⊎ HasRun items r those
+  pub has_side : (t l r : Tree ℕ) (n : Option ℕ) → t ≡ branch n l r → (those ≡ run_of_leaf items (run t) → ⊥) → HasRun items t those
+      → HasRun items l those ⊎ HasRun items r those
   has_side t l r n e other k = at (side_or_whole n l r k.segment (subst (λ u. Contains (segments u) k.segment) e k.within))
     where
       at : Contains (segments l) k.segment ⊎ (Contains (segments r) k.segment ⊎ (branch n l r ≡ k.segment)) → HasRun items l those ⊎ HasRun items r those

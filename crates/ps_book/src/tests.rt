@@ -80,137 +80,93 @@ fn splice(
     ))
 }
 
-#[test]
-fn an_editing_session(rt: HostRuntime) -> Result<(), Fail> {
-    let alloc = rt.alloc();
-    let mut book = Book::new(alloc)?;
-    let g = name(&rt, b"g");
+/// What seat 1 is told of a place.
+fn read(rt: &impl Abort, book: &mut Book, bytes: &[u8], version: u32) -> Reply {
+    turn(
+        rt,
+        book,
+        1,
+        Cmd::Read {
+            place: place(rt, bytes, version),
+        },
+    )
+}
+
+/// What seat 1 is told when it retires a version of `g`.
+fn retire(rt: &impl Abort, book: &mut Book, version: u32) -> Reply {
+    turn(
+        rt,
+        book,
+        1,
+        Cmd::Retire {
+            name: name(rt, b"g"),
+            version,
+        },
+    )
+}
+
+/// What seat 1 is told when it opens a circuit on two qubits with no item.
+fn open_two(rt: &impl Abort, alloc: Global, book: &mut Book) -> Result<Reply, AllocError> {
     let two = text(alloc, b"qreg q[2];\n", 0, b"")?;
+    Ok(turn(
+        rt,
+        book,
+        1,
+        Cmd::Open {
+            name: name(rt, b"g"),
+            text: two,
+        },
+    ))
+}
+
+/// A circuit, and a version more.
+fn edits(rt: &impl Abort, alloc: Global, book: &mut Book) -> Result<(), AllocError> {
+    assert!(rt; matches!(open_two(rt, alloc, book)?, Reply::Opened { missing: 0 }));
     assert!(rt;
         matches!(
-            turn(&rt, &mut book, 1, Cmd::Open { name: g, text: two }),
-            Reply::Opened { missing: 0 }
-        )
-    );
-    assert!(rt;
-        matches!(
-            splice(&rt, alloc, &mut book, 1, 0, 0, b"cx q[0],q[1];\n")?,
+            splice(rt, alloc, book, 1, 0, 0, b"cx q[0],q[1];\n")?,
             Reply::Committed {
                 version: 2,
                 missing: 1
             }
         )
     );
+    assert!(rt; matches!(read(rt, book, b"g", 2), Reply::Shown(_)));
+    assert!(rt; matches!(splice(rt, alloc, book, 2, 0, 0, b"")?, Reply::Nothing));
+    Ok(())
+}
+
+/// The first of two versions, retired.
+fn retires(rt: &impl Abort, book: &mut Book) {
+    assert!(rt; matches!(retire(rt, book, 2), Reply::IsLatest));
+    assert!(rt; matches!(retire(rt, book, 1), Reply::Retired { claims: 0 }));
+    assert!(rt; matches!(retire(rt, book, 1), Reply::WasRetired(5)));
+    assert!(rt; matches!(read(rt, book, b"g", 1), Reply::WasRetired(5)));
+}
+
+/// What is not there.
+fn misses(rt: &impl Abort, book: &mut Book) {
+    assert!(rt; matches!(read(rt, book, b"h", 1), Reply::NoCircuit));
+    assert!(rt; matches!(read(rt, book, b"g", 9), Reply::NoVersion(2)));
+}
+
+/// Edits that are refused.
+fn refuses(rt: &impl Abort, alloc: Global, book: &mut Book) -> Result<(), AllocError> {
     assert!(rt;
         matches!(
-            turn(
-                &rt,
-                &mut book,
-                1,
-                Cmd::Read {
-                    place: place(&rt, b"g", 2)
-                }
-            ),
-            Reply::Shown(_)
-        )
-    );
-    assert!(rt; matches!(splice(&rt, alloc, &mut book, 2, 0, 0, b"")?, Reply::Nothing));
-    assert!(rt;
-        matches!(
-            splice(&rt, alloc, &mut book, 2, 2, 1, b"x q[0];\n")?,
+            splice(rt, alloc, book, 2, 2, 1, b"x q[0];\n")?,
             Reply::Span(1)
         )
     );
     assert!(rt;
         matches!(
-            turn(
-                &rt,
-                &mut book,
-                1,
-                Cmd::Retire {
-                    name: g,
-                    version: 2
-                }
-            ),
-            Reply::IsLatest
-        )
-    );
-    assert!(rt;
-        matches!(
-            turn(
-                &rt,
-                &mut book,
-                1,
-                Cmd::Retire {
-                    name: g,
-                    version: 1
-                }
-            ),
-            Reply::Retired { claims: 0 }
-        )
-    );
-    assert!(rt;
-        matches!(
-            turn(
-                &rt,
-                &mut book,
-                1,
-                Cmd::Retire {
-                    name: g,
-                    version: 1
-                }
-            ),
-            Reply::WasRetired(6)
-        )
-    );
-    assert!(rt;
-        matches!(
-            splice(&rt, alloc, &mut book, 1, 0, 0, b"x q[0];\n")?,
+            splice(rt, alloc, book, 1, 0, 0, b"x q[0];\n")?,
             Reply::Stale(2)
         )
     );
     assert!(rt;
         matches!(
-            turn(
-                &rt,
-                &mut book,
-                1,
-                Cmd::Read {
-                    place: place(&rt, b"g", 1)
-                }
-            ),
-            Reply::WasRetired(6)
-        )
-    );
-    assert!(rt;
-        matches!(
-            turn(
-                &rt,
-                &mut book,
-                1,
-                Cmd::Read {
-                    place: place(&rt, b"h", 1)
-                }
-            ),
-            Reply::NoCircuit
-        )
-    );
-    assert!(rt;
-        matches!(
-            turn(
-                &rt,
-                &mut book,
-                1,
-                Cmd::Read {
-                    place: place(&rt, b"g", 9)
-                }
-            ),
-            Reply::NoVersion(2)
-        )
-    );
-    assert!(rt;
-        matches!(
-            splice(&rt, alloc, &mut book, 2, 0, 1, b"rx(pi/3) q[0];\n")?,
+            splice(rt, alloc, book, 2, 0, 1, b"rx(pi/3) q[0];\n")?,
             Reply::Bad {
                 name: FaultName::NotDyadic,
                 line: 1,
@@ -218,40 +174,39 @@ fn an_editing_session(rt: HostRuntime) -> Result<(), Fail> {
             }
         )
     );
-    let two = text(alloc, b"qreg q[2];\n", 0, b"")?;
-    assert!(rt;
-        matches!(
-            turn(&rt, &mut book, 1, Cmd::Open { name: g, text: two }),
-            Reply::NameTaken(0)
-        )
-    );
+    assert!(rt; matches!(open_two(rt, alloc, book)?, Reply::NameTaken(0)));
+    Ok(())
+}
+
+#[test]
+fn an_editing_session(rt: HostRuntime) -> Result<(), Fail> {
+    let alloc = rt.alloc();
+    let mut book = Book::new(alloc)?;
+    edits(&rt, alloc, &mut book)?;
+    retires(&rt, &mut book);
+    misses(&rt, &mut book);
+    refuses(&rt, alloc, &mut book)?;
+    let g = name(&rt, b"g");
     assert_eq!(rt; book.missing(g, 2), Some(1));
     assert_eq!(rt; book.missing(g, 3), None);
     assert_eq!(rt; book.into_journal().len(), 14);
     Ok(())
 }
 
-#[test]
-fn turns_of_one_seat(rt: HostRuntime) -> Result<(), Fail> {
-    let alloc = rt.alloc();
-    let mut book = Book::new(alloc)?;
+/// What a seat with no pin and no claim is told, where nothing is missing.
+fn idles(rt: &impl Abort, book: &mut Book) {
+    assert!(rt; matches!(turn(rt, book, 1, Cmd::Next { pinned: true }), Reply::NoPin));
     assert!(rt;
         matches!(
-            turn(&rt, &mut book, 1, Cmd::Next { pinned: true }),
-            Reply::NoPin
-        )
-    );
-    assert!(rt;
-        matches!(
-            turn(&rt, &mut book, 1, Cmd::Publish { kept: None }),
+            turn(rt, book, 1, Cmd::Publish { kept: None }),
             Reply::NoClaim
         )
     );
     assert!(rt;
         matches!(
             turn(
-                &rt,
-                &mut book,
+                rt,
+                book,
                 1,
                 Cmd::Answer {
                     outcome: Outcome::Done
@@ -260,22 +215,27 @@ fn turns_of_one_seat(rt: HostRuntime) -> Result<(), Fail> {
             Reply::NoPin
         )
     );
-    assert!(rt;
-        matches!(
-            turn(&rt, &mut book, 1, Cmd::Next { pinned: false }),
-            Reply::Idle
-        )
-    );
-    let a = name(&rt, b"a");
-    let first = place(&rt, b"a", 1);
+    assert!(rt; matches!(turn(rt, book, 1, Cmd::Next { pinned: false }), Reply::Idle));
+}
+
+/// A claim on the one segment of a circuit on one qubit, which entry 4 opens.
+fn claims(rt: &impl Abort, alloc: Global, book: &mut Book) -> Result<(), AllocError> {
     let one = text(alloc, b"qreg q[1];\n", 2, b"h q[0];\n")?;
     assert!(rt;
         matches!(
-            turn(&rt, &mut book, 1, Cmd::Open { name: a, text: one }),
+            turn(
+                rt,
+                book,
+                1,
+                Cmd::Open {
+                    name: name(rt, b"a"),
+                    text: one
+                }
+            ),
             Reply::Opened { missing: 1 }
         )
     );
-    match turn(&rt, &mut book, 1, Cmd::Next { pinned: false }) {
+    match turn(rt, book, 1, Cmd::Next { pinned: false }) {
         Reply::Task(task) => assert!(rt;
             task.get().claim == 5 && task.get().seat == 1 && task.get().n == 1
         ),
@@ -283,15 +243,21 @@ fn turns_of_one_seat(rt: HostRuntime) -> Result<(), Fail> {
     }
     assert!(rt;
         matches!(
-            turn(&rt, &mut book, 1, Cmd::Publish { kept: None }),
+            turn(rt, book, 1, Cmd::Publish { kept: None }),
             Reply::Stands
         )
     );
+    Ok(())
+}
+
+/// Sums of a circuit with a segment that has no record.
+fn sums(rt: &impl Abort, book: &mut Book) {
+    let first = place(rt, b"a", 1);
     assert!(rt;
         matches!(
             turn(
-                &rt,
-                &mut book,
+                rt,
+                book,
                 1,
                 Cmd::Pin {
                     first,
@@ -304,8 +270,8 @@ fn turns_of_one_seat(rt: HostRuntime) -> Result<(), Fail> {
     assert!(rt;
         matches!(
             turn(
-                &rt,
-                &mut book,
+                rt,
+                book,
                 1,
                 Cmd::Sum {
                     outcome: Outcome::Done
@@ -317,8 +283,8 @@ fn turns_of_one_seat(rt: HostRuntime) -> Result<(), Fail> {
     assert!(rt;
         matches!(
             turn(
-                &rt,
-                &mut book,
+                rt,
+                book,
                 1,
                 Cmd::Pin {
                     first,
@@ -331,8 +297,8 @@ fn turns_of_one_seat(rt: HostRuntime) -> Result<(), Fail> {
     assert!(rt;
         matches!(
             turn(
-                &rt,
-                &mut book,
+                rt,
+                book,
                 1,
                 Cmd::Sum {
                     outcome: Outcome::Crowded
@@ -341,6 +307,15 @@ fn turns_of_one_seat(rt: HostRuntime) -> Result<(), Fail> {
             Reply::NotCrowded
         )
     );
+}
+
+#[test]
+fn turns_of_one_seat(rt: HostRuntime) -> Result<(), Fail> {
+    let alloc = rt.alloc();
+    let mut book = Book::new(alloc)?;
+    idles(&rt, &mut book);
+    claims(&rt, alloc, &mut book)?;
+    sums(&rt, &mut book);
     Ok(())
 }
 

@@ -6,4 +6,5 @@ pub returns : goal.returns
 returns c t leads =
     let b = c.args.self.now in
     let f = fields_of b.service in
-    misses f b.service.sound t (record { name = c.args.name; version = c.args.version }) c.missing.result c.missing.ensures (stands_there f b.journal.items t leads b.lawful)
+    misses f b.service.sound t (record { name = c.args.name; version = c.args.version }) c.missing.result c.missing.ensures
+    (stands_there f b.journal.items t leads b.lawful)

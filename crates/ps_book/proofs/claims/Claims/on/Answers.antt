@@ -14,6 +14,8 @@ loop-i-init c = (sym (bits_none c.args.place.now c.args.self.now.seats c.require
 pub loop-i-preserved : goal.loop-i-preserved
 loop-i-preserved c =
     let bit : c.from-bit.result ≡ bit_of c.is_on.result = c.from-bit.ensures ∙ byte_is c.is_on.result in
-    let more = bits_more c.args.place.now c.args.self.now.seats c.loop-i.i c.index-self-i.result c.is_on.result c.loop-i.bits c.requires c.loop-i-test.true c.index-self-i.is (c.is_on.ensures ∙ sym (ap (is_on c.args.place.now) c.index-self-i.is)) c.loop-i.invariant.0 in
+    let more =
+    bits_more c.args.place.now c.args.self.now.seats c.loop-i.i c.index-self-i.result c.is_on.result c.loop-i.bits c.requires c.loop-i-test.true
+    c.index-self-i.is (c.is_on.ensures ∙ sym (ap (is_on c.args.place.now) c.index-self-i.is)) c.loop-i.invariant.0 in
     let few = bits_below c.loop-i.bits c.loop-i.i c.is_on.result c.loop-i.invariant.1 in
     (omega (arith, bit, more), omega (arith, bit, few))

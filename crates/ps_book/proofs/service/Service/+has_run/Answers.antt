@@ -31,7 +31,8 @@ returns-then-has_run t c =
     let k = c.args.node in
     let l = c.in-Branch.left in
     let r = c.in-Branch.right in
-    let e : tree ts k ≡ branch (Some k) (tree ts l) (tree ts r) = subst (λ us. tree us k ≡ branch (Some k) (tree us l) (tree us r)) c.nodes-2.ensures.nodes c.in-Branch.ensures.0 in
+    let e : tree ts k ≡ branch (Some k) (tree ts l) (tree ts r) =
+    subst (λ us. tree us k ≡ branch (Some k) (tree us l) (tree us r)) c.nodes-2.ensures.nodes c.in-Branch.ensures.0 in
     (λ h. has_left items (map prims_of c.args.items.now) (tree ts k) (tree ts l) (tree ts r) (Some k) e (c.has_run.ensures.0 h), λ h. c.if-has_run.true)
 
 pub returns-else-has_run : goal.returns-else-has_run
@@ -42,9 +43,11 @@ returns-else-has_run t c =
     let k = c.args.node in
     let l = c.in-Branch.left in
     let r = c.in-Branch.right in
-    let e : tree ts k ≡ branch (Some k) (tree ts l) (tree ts r) = subst (λ us. tree us k ≡ branch (Some k) (tree us l) (tree us r)) c.nodes-2.ensures.nodes c.in-Branch.ensures.0 in
+    let e : tree ts k ≡ branch (Some k) (tree ts l) (tree ts r) =
+    subst (λ us. tree us k ≡ branch (Some k) (tree us l) (tree us r)) c.nodes-2.ensures.nodes c.in-Branch.ensures.0 in
     let other : those ≡ run_of_leaf items (run (tree ts k)) → ⊥ = λ q. false≢true (sym c.if-is_run.false ∙ c.is_run.ensures.1 q) in
-    let left : HasRun items (tree ts l) those → ⊥ = λ x. false≢true (sym c.if-has_run.false ∙ c.has_run.ensures.1 x) in (
+    let left : HasRun items (tree ts l) those → ⊥ = λ x. false≢true (sym c.if-has_run.false ∙ c.has_run.ensures.1 x) in
+    let side = has_side items those (tree ts k) (tree ts l) (tree ts r) (Some k) e other in (
       λ h. has_right items those (tree ts k) (tree ts l) (tree ts r) (Some k) e (c.has_run-else-has_run.ensures.0 h),
-      λ h. c.has_run-else-has_run.ensures.1 (right_side items those (tree ts l) (tree ts r) left (has_side items those (tree ts k) (tree ts l) (tree ts r) (Some k) e other h)),
+      λ h. c.has_run-else-has_run.ensures.1 (right_side items those (tree ts l) (tree ts r) left (side h)),
     )

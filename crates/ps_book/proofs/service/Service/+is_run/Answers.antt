@@ -17,7 +17,8 @@ returns-then-is_run t c =
     let l = c.in-Branch.left in
     let r = c.in-Branch.right in
     let n = c.len-front.result in
-    let e : tree ts k ≡ branch (Some k) (tree ts l) (tree ts r) = subst (λ us. tree us k ≡ branch (Some k) (tree us l) (tree us r)) c.nodes.ensures.nodes c.in-Branch.ensures.0 in
+    let e : tree ts k ≡ branch (Some k) (tree ts l) (tree ts r) =
+    subst (λ us. tree us k ≡ branch (Some k) (tree us l) (tree us r)) c.nodes.ensures.nodes c.in-Branch.ensures.0 in
     let len : n ≡ length (run (tree ts l)) = c.len-front.ensures.value ∙ ap (λ us. length (run (tree us l))) c.nodes-in-Branch.ensures.nodes in
     let rest : take (length xs - n) (drop n xs) ≡ drop n xs = take_rest xs n in
     let front : map prims_of (take n xs) ≡ run_at items ts l = c.is_run.ensures.0 c.if-is_run.true in (
@@ -33,7 +34,8 @@ returns-else-is_run t c =
     let l = c.in-Branch.left in
     let r = c.in-Branch.right in
     let n = c.len-front.result in
-    let e : tree ts k ≡ branch (Some k) (tree ts l) (tree ts r) = subst (λ us. tree us k ≡ branch (Some k) (tree us l) (tree us r)) c.nodes.ensures.nodes c.in-Branch.ensures.0 in
+    let e : tree ts k ≡ branch (Some k) (tree ts l) (tree ts r) =
+    subst (λ us. tree us k ≡ branch (Some k) (tree us l) (tree us r)) c.nodes.ensures.nodes c.in-Branch.ensures.0 in
     let len : n ≡ length (run (tree ts l)) = c.len-front.ensures.value ∙ ap (λ us. length (run (tree us l))) c.nodes-in-Branch.ensures.nodes in (
       λ h. absurd (false≢true (sym c.if-is_run.false ∙ h)),
       λ h. c.is_run.ensures.1 (front_run items ts k l r n c.args.items.now e len h),

@@ -11,8 +11,11 @@ returns-then-not-same_item c = (
   λ e. absurd (false≢true e),
   λ same.
       let xs = c.args.items.now in
-      let at = same_at (items_in c.args.self.now.items.items) xs c.args.numbers.now c.loop-i.i c.index-items-i.result 0 (omega (arith, c.if-numbers-items.false, c.loop-i-test.true)) c.loop-i-test.true same in
+      let at =
+      same_at (items_in c.args.self.now.items.items) xs c.args.numbers.now c.loop-i.i c.index-items-i.result 0
+      (omega (arith, c.if-numbers-items.false, c.loop-i-test.true)) c.loop-i-test.true same in
       sym c.if-not-same_item.true
       ∙ c.same_item.ensures.1
-      (ap (λ (x : AnItem). x.prims) c.deref.ensures ∙ c.item.ensures ∙ sym at ∙ sym (ap prims_of c.index-items-i.is) ∙ sym (ap (λ (x : AnItem). x.prims) c.deref-in-loop-i.ensures)),
+      (ap (λ (x : AnItem). x.prims) c.deref.ensures ∙ c.item.ensures ∙ sym at ∙ sym (ap prims_of c.index-items-i.is)
+      ∙ sym (ap (λ (x : AnItem). x.prims) c.deref-in-loop-i.ensures)),
 )

@@ -11,14 +11,20 @@ use Rattle.ps_book.proofs.service.Service.retire.Goals as goal
 pub returns-in-None-clause-leaves : goal.returns-in-None-clause-leaves
 returns-in-None-clause-leaves c t s =
     let f = fields_of c.args.self.now in
-    record { state = t; does_so = replies.retires_no_circuit f t s c.args.self.now.sound.tabled c.args.number c.args.place.now c.in-None.ensures.about; stands = s }
+    record {
+      state = t;
+      does_so = replies.retires_no_circuit f t s c.args.self.now.sound.tabled c.args.number c.args.place.now c.in-None.ensures.about;
+      stands = s;
+    }
 
 pub returns-then-not-exists-clause-leaves : goal.returns-then-not-exists-clause-leaves
 returns-then-not-exists-clause-leaves c t s =
     let f = fields_of c.args.self.now in
     record {
       state = t;
-      does_so = replies.retires_no_version f t s c.args.self.now.sound.tabled c.args.number c.args.place.now c.in-Some.about c.in-Some.ensures.about (sym c.exists.ensures ∙ c.if-not-exists.true);
+      does_so =
+          replies.retires_no_version f t s c.args.self.now.sound.tabled c.args.number c.args.place.now c.in-Some.about c.in-Some.ensures.about
+          (sym c.exists.ensures ∙ c.if-not-exists.true);
       stands = s;
     }
 
@@ -27,21 +33,26 @@ returns-then-place-about-clause-leaves c t s =
     let f = fields_of c.args.self.now in
     record {
       state = t;
-      does_so = replies.retires_latest_there f t s c.args.self.now.sound.tabled c.args.number c.args.place.now c.in-Some.about c.in-Some.ensures.about (sym c.exists.ensures ∙ c.if-not-exists.false) c.if-place-about.true;
+      does_so =
+          replies.retires_latest_there f t s c.args.self.now.sound.tabled c.args.number c.args.place.now c.in-Some.about c.in-Some.ensures.about
+          (sym c.exists.ensures ∙ c.if-not-exists.false) c.if-place-about.true;
       stands = s;
     }
 
 pub retire-requires-clause-earlier : goal.retire-requires-clause-earlier
 retire-requires-clause-earlier c =
     let f = fields_of c.args.self.now in
-    replies.earlier_at (circuit_at f.versions.circuits c.args.place.now.name) c.in-Some.about c.args.place.now.version c.in-Some.ensures.about (sym c.exists.ensures ∙ c.if-not-exists.false) c.if-place-about.false
+    replies.earlier_at (circuit_at f.versions.circuits c.args.place.now.name) c.in-Some.about c.args.place.now.version c.in-Some.ensures.about
+    (sym c.exists.ensures ∙ c.if-not-exists.false) c.if-place-about.false
 
 pub returns-in-Some-retired-clause-leaves : goal.returns-in-Some-retired-clause-leaves
 returns-in-Some-retired-clause-leaves c t s =
     let f = fields_of c.args.self.now in
     record {
       state = t;
-      does_so = replies.retires_was f t s c.args.self.now.sound.tabled c.args.number c.args.place.now c.in-Some.about c.in-Some.ensures.about c.state.result c.state.ensures.told c.in-Some-retired.entry c.if-place-about.false c.in-Some-retired.is;
+      does_so =
+          replies.retires_was f t s c.args.self.now.sound.tabled c.args.number c.args.place.now c.in-Some.about c.in-Some.ensures.about c.state.result
+          c.state.ensures.told c.in-Some-retired.entry c.if-place-about.false c.in-Some-retired.is;
       stands = s;
     }
 
@@ -51,7 +62,11 @@ invariant_of-self c =
     let f = fields_of old in
     let p = c.args.place.now in
     let v = replies.version_told (held_at f.versions p) c.state.result c.state.ensures.told in
-    record { sound = retired_sound c.args.number f old.sound p v.0 v.1 (sym v.2 ∙ c.in-None-retired.is) c.retire.new.self c.retire.ensures.circuits c.retire.ensures.nodes c.retire.ensures.kept }
+    record {
+      sound =
+          retired_sound c.args.number f old.sound p v.0 v.1 (sym v.2 ∙ c.in-None-retired.is)
+          c.retire.new.self c.retire.ensures.circuits c.retire.ensures.nodes c.retire.ensures.kept;
+    }
 
 pub returns-in-None-retired-clause-leaves : goal.returns-in-None-retired-clause-leaves
 returns-in-None-retired-clause-leaves c t s =
@@ -63,6 +78,9 @@ returns-in-None-retired-clause-leaves c t s =
     record {
       state = retired c.args.number p t;
       does_so = subst (λ n. Retires t c.args.number p (Retired n) (retired c.args.number p t)) (sym bits)
-          (replies.retires_now f t s old.sound.tabled c.args.number p c.in-Some.about c.in-Some.ensures.about c.state.result c.state.ensures.told c.if-place-about.false c.in-None-retired.is);
-      stands = retired_stands c.args.number f old.sound p v.0 v.1 (sym v.2 ∙ c.in-None-retired.is) c.retire.new.self c.retire.ensures.circuits c.retire.ensures.nodes c.retire.ensures.kept t s;
+          (replies.retires_now f t s old.sound.tabled c.args.number p c.in-Some.about c.in-Some.ensures.about
+          c.state.result c.state.ensures.told c.if-place-about.false c.in-None-retired.is);
+      stands =
+          retired_stands c.args.number f old.sound p v.0 v.1
+          (sym v.2 ∙ c.in-None-retired.is) c.retire.new.self c.retire.ensures.circuits c.retire.ensures.nodes c.retire.ensures.kept t s;
     }

@@ -26,7 +26,8 @@ keeps : (c : After-push_reserved) → ∥ IsLawful (fields_of c.serve-reply.new.
 keeps c =
     let old = c.args.self.now in
     let f = fields_of c.serve-reply.new.self in
-    subst (λ es. ∥ IsLawful f es ∥₁) (sym c.push_reserved.ensures.items) (lawful_more (fields_of old.service) f old.journal.items (entry c) (step c) old.lawful)
+    subst (λ es. ∥ IsLawful f es ∥₁) (sym c.push_reserved.ensures.items)
+    (lawful_more (fields_of old.service) f old.journal.items (entry c) (step c) old.lawful)
 
 pub serve-reply-requires-clause-few : goal.serve-reply-requires-clause-few
 serve-reply-requires-clause-few c = let old = c.args.self.now in few_versions (fields_of old.service) old.journal.items old.service.sound old.few old.lawful
@@ -42,4 +43,5 @@ invariant_of-self c =
     }
 
 pub returns-clause-lawful : goal.returns-clause-lawful
-returns-clause-lawful c _ = legal_of (fields_of c.serve-reply.new.self) c.push_reserved.new.self.items (keeps (goal.at.returns-clause-lawful c).After-push_reserved)
+returns-clause-lawful c _ =
+    legal_of (fields_of c.serve-reply.new.self) c.push_reserved.new.self.items (keeps (goal.at.returns-clause-lawful c).After-push_reserved)
