@@ -1,13 +1,12 @@
 -- Which records belong to which versions, as the tables tell it.
-use Rattle.std.proofs.Common.{◌≡◌, ◌<◌, ◌≤◌, ◌+◌, ℕ, zero, suc, List, [], ◌∷◌, map, length, refl, sym, ap, ap₂, ◌∙◌, subst, arith, Bool, true, false, ◌||◌, ◌&&◌, ◌⊎◌, inl, inr}
+use Rattle.std.proofs.Common.{◌≡◌, ℕ, zero, suc, List, [], ◌∷◌, map, length, refl, sym, ap, ◌∙◌, subst, arith, Bool, true, false, ◌&&◌, ◌⊎◌, inl, inr}
 use Rattle.std.proofs.lemmas.Bool.Decides.{nat_tests}
-use Rattle.std.specs.Prelude.{Option, Some, None, IsTrue, ◌↔◌, ◌==◌, Contains, slice_index_or}
+use Rattle.std.specs.Prelude.{Option, Some, None, IsTrue, ◌↔◌, ◌==◌, Contains}
 use Rattle.std.specs.declared.sync.Arc.{Arc}
 use Rattle.std.specs.declared.alloc.Global.{Global}
 use Rattle.seg_tree.specs.Trees.{Tree, run, run_maybe}
 use Rattle.seg_tree.specs.Table.{tree, root_tree}
 use Rattle.ps_script.specs.declared.name.Place.{Place}
-use Rattle.ps_versions.specs.Held as held
 use Rattle.ps_versions.specs.Lookup.{root_of}
 use Rattle.ps_versions.specs.Questions.{segments, segments_maybe}
 use Rattle.ps_prim.specs.declared.items.Item.{Item as AnItem}
@@ -17,12 +16,11 @@ use Rattle.ps_reach.specs.declared.judged.Judged.{Judged}
 use Rattle.ps_journal.specs.Mapped.{mapped}
 use Rattle.ps_journal.proofs.Mapping.{run-mapped}
 use Rattle.ps_journal.specs.declared.seats.Pin.{Pin}
-use Rattle.ps_journal.specs.State.{Item, State, Version, Circuit, Finds, pin_of}
+use Rattle.ps_journal.specs.State.{Item, Version, Finds}
 use Rattle.ps_journal.specs.Segments.{segments_of, is_passed}
-use Rattle.ps_journal.specs.Judging.{Belongs, BelongBoth}
-use Rattle.ps_views.specs.Views.{item_at, run_of_leaf, run_at, tree_of, version_of}
+use Rattle.ps_journal.specs.Judging.{Belongs}
+use Rattle.ps_views.specs.Views.{item_at, run_at, tree_of, version_of}
 use Rattle.ps_views.specs.Fields.{Fields, IsSound, held_at}
-use Rattle.ps_views.specs.Stands.{Stands}
 use Rattle.ps_views.specs.Pinned.{KeptAt}
 use Rattle.ps_views.proofs.Knowledge.{segments_of_mapped}
 use Rattle.ps_book.specs.Runs.{HasRun}

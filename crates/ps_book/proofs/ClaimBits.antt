@@ -1,11 +1,10 @@
 -- The bits of the seats that have a claim on a version.
-use Rattle.std.proofs.Common.{◌≡◌, ℕ, zero, suc, ◌+◌, ◌-◌, ◌*◌, ◌^◌, ◌<◌, ◌≤◌, Bool, true, false, cond, List, [], ◌∷◌, length, drop, get_or, refl, sym, ap, ap₂, ◌∙◌, arith}
+use Rattle.std.proofs.Common.{◌≡◌, ℕ, zero, suc, ◌+◌, ◌-◌, ◌*◌, ◌^◌, ◌<◌, ◌≤◌, Bool, true, false, cond, List, [], ◌∷◌, length, drop, get_or, refl, sym, ap, ◌∙◌, arith}
 use Rattle.std.specs.Prelude.{Option, Some, None}
 use Rattle.std.proofs.Math.Pow.{pow_mono}
 use Rattle.std.proofs.lemmas.List.{drop_more}
 use Rattle.ps_script.specs.declared.name.Place.{Place}
 use Rattle.ps_journal.specs.declared.seats.Claim.{Claim}
-use Rattle.ps_journal.specs.Keeping.{same_place}
 use Rattle.ps_journal.specs.Retiring.{claims_on}
 use Rattle.ps_book.specs.Seats.{is_on}
 

@@ -1,6 +1,6 @@
 -- How questions about two versions conclude.
-use Rattle.std.proofs.Common.{◌≡◌, ◌<◌, ◌≤◌, ◌+◌, ℕ, List, length, refl, sym, ap, ap₂, ◌∙◌, subst, arith, Bool, true, false, ◌⊎◌, inl, inr}
-use Rattle.std.specs.Prelude.{Option, Some, None, IsTrue, ◌↔◌, slice_index_or}
+use Rattle.std.proofs.Common.{◌≡◌, ◌<◌, ◌≤◌, ◌+◌, ℕ, refl, sym, ap, ap₂, ◌∙◌, subst, Bool, true, false, inl, inr}
+use Rattle.std.specs.Prelude.{Option, Some, None, slice_index_or}
 use Rattle.std.specs.declared.sync.Arc.{Arc}
 use Rattle.std.specs.declared.alloc.Global.{Global}
 use Rattle.seg_tree.specs.Trees.{run_maybe}
@@ -8,10 +8,10 @@ use Rattle.ps_script.specs.declared.name.Place.{Place}
 use Rattle.ps_reach.specs.declared.judged.Judged.{Judged as AJudged}
 use Rattle.ps_journal.specs.declared.seats.Pin.{Pin}
 use Rattle.ps_journal.specs.declared.commands.Outcome.{Outcome}
-use Rattle.ps_journal.specs.declared.commands.Outcome.TheVariants.{Judged, Done, Starved, Crowded}
+use Rattle.ps_journal.specs.declared.commands.Outcome.TheVariants.{Judged, Done}
 use Rattle.ps_journal.specs.declared.replies.Reply.{Reply}
 use Rattle.ps_journal.specs.declared.replies.Reply.TheVariants.{Answered, NoPin, NoRoom, OtherRun, Memory}
-use Rattle.ps_journal.specs.State.{State, Version, Circuit, Finds, pin_of, with_terms, most_terms}
+use Rattle.ps_journal.specs.State.{State, Version, Circuit, Finds, pin_of, most_terms}
 use Rattle.ps_journal.specs.Keeping.{unpinned}
 use Rattle.ps_journal.specs.Judging.{Belongs, BelongBoth, FindsBoth, size, Answers}
 use Rattle.ps_journal.specs.Judging as judging
@@ -20,11 +20,11 @@ use Rattle.ps_journal.specs.Summing as summing
 use Rattle.ps_views.specs.Views.{version_of, circuit_of}
 use Rattle.ps_views.specs.Fields.{Fields, IsSound, pin_at}
 use Rattle.ps_views.specs.Stands.{Stands, Leaves}
-use Rattle.ps_views.specs.Pinned.{KeptAt, HasPinned}
+use Rattle.ps_views.specs.Pinned.{HasPinned}
 use Rattle.ps_views.proofs.Replies.{finds_at}
 use Rattle.ps_views.proofs.Justified.{justified}
 use Rattle.ps_book.specs.Wanting.{AnswersOr, SumsOr}
-use Rattle.ps_book.specs.Conclusions.{counted, Fits, Concludes, TellsPair, ConcludesSum}
+use Rattle.ps_book.specs.Conclusions.{counted, Concludes, TellsPair, ConcludesSum}
 
 -- ---- a question that is given up, or is ended by what ends none
 module _ (f : Fields) (pin : Pin) where

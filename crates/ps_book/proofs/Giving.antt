@@ -1,6 +1,6 @@
 -- What is given to a seat, or told to it where nothing is left.
-use Rattle.std.proofs.Common.{◌≡◌, ◌<◌, ◌≤◌, ℕ, zero, suc, List, [], ◌∷◌, length, refl, sym, ap, ap₂, ◌∙◌, subst, arith, Bool, true, false, ◌&&◌, not, inl, inr}
-use Rattle.std.specs.Prelude.{Option, Some, None, is_none, is_some, IsSome, IfSome, count_by, slice_set, slice_index_or}
+use Rattle.std.proofs.Common.{◌≡◌, ◌<◌, ℕ, zero, suc, List, [], ◌∷◌, length, refl, sym, ap, ◌∙◌, subst, arith, Bool, true, false, ◌&&◌, inl, inr}
+use Rattle.std.specs.Prelude.{Option, Some, None, is_none, is_some, IsSome, IfSome, count_by, slice_index_or}
 use Rattle.std.specs.declared.sync.Arc.{Arc}
 use Rattle.std.specs.declared.alloc.Global.{Global}
 use Rattle.seg_tree.specs.Trees.{Tree, leaf, branch, name_of, run}
@@ -8,35 +8,32 @@ use Rattle.seg_tree.specs.Table.{tree}
 use Rattle.seg_tree.specs.declared.node.Seen.TheVariants as seen
 use Rattle.seg_tree.specs.Seen.{Shows}
 use Rattle.ps_script.specs.declared.name.Place.{Place}
-use Rattle.ps_versions.specs.Held.{Held, Version, Circuit}
 use Rattle.ps_versions.specs.Lookup.{circuit_at}
 use Rattle.ps_versions.specs.Records.{record_at}
 use Rattle.ps_versions.specs.Reached.{is_segment}
 use Rattle.ps_versions.specs.Questions.{kept_by, is_sum, has_sum, sides_have_sums, lacks, is_ready, is_settled}
-use Rattle.ps_versions.specs.Choices.{lightest, lighter_of, open_at, open_segments, all_settled, comes_before}
+use Rattle.ps_versions.specs.Choices.{lightest, lighter_of, open_at, open_segments, all_settled}
 use Rattle.ps_versions.specs.declared.data.Ready.{Ready}
 use Rattle.ps_reach.specs.declared.record.Record.{Record}
 use Rattle.ps_reach.specs.declared.task.Work.TheVariants.{Items, Children}
 use Rattle.ps_journal.specs.declared.seats.Pin.{Pin}
-use Rattle.ps_journal.specs.declared.seats.Claim.{Claim}
 use Rattle.ps_journal.specs.declared.replies.Reply.{Reply}
-use Rattle.ps_journal.specs.declared.replies.Reply.TheVariants.{Idle, NoPin, Memory, Task}
+use Rattle.ps_journal.specs.declared.replies.Reply.TheVariants.{Idle, NoPin}
 use Rattle.ps_journal.specs.State.{Item, State, pin_of, unclaimed}
 use Rattle.ps_journal.specs.Claiming.{Standing, claims_node, LooksAt, all, own, Nexts, no_pin, claimed, kept_versions, pinned_versions}
 use Rattle.ps_views.specs.Views.{run_of_leaf, run_at}
 use Rattle.ps_views.specs.Fields.{Fields, IsSound, held_at, pin_at, passed}
 use Rattle.ps_views.specs.Stands.{Stands, Leaves}
-use Rattle.ps_views.specs.Pinned.{KeptAt, HasPinned}
+use Rattle.ps_views.specs.Pinned.{KeptAt}
 use Rattle.ps_views.specs.OpenWhere.{open_pinned, AreSettledAt}
 use Rattle.ps_views.specs.Readiness.{IsReadyAt}
-use Rattle.ps_views.specs.Tasks.{unclaims, Gives, given, starved, IsFiledAt, IsWorkAt, TellsBoth, SettlesIn}
+use Rattle.ps_views.specs.Tasks.{Gives, given, starved, IsFiledAt, IsWorkAt, SettlesIn}
 use Rattle.ps_views.specs.declared.filed.Filed.{Filed}
 use Rattle.ps_views.proofs.Fewest.{weight_by, lightest_all, lighter_all}
 use Rattle.ps_views.proofs.ReadyLaws.{all_ready_at, all_ready}
-use Rattle.ps_views.proofs.PinnedLaws.{pinned_one, pinned_before, pinned_behind}
 use Rattle.ps_views.proofs.Pinned.{has_pinned}
 use Rattle.ps_views.proofs.TaskLaws.{Picks, picks_kept, picks_pinned, given_nexts, given_stands, idle_nexts, settled_nexts}
-use Rattle.ps_book.specs.Wanting.{NextsOr, Starves}
+use Rattle.ps_book.specs.Wanting.{NextsOr}
 use Rattle.ps_book.specs.Counts.{claims_of}
 use Rattle.ps_book.specs.declared.claims.Claims.{Claims}
 use Rattle.std.proofs.lemmas.List.{take_all}

@@ -16,7 +16,7 @@ use Rattle.ps_journal.specs.Keeping.{unpinned}
 use Rattle.ps_journal.specs.Step.{starved, Serves, Step, serves, wants}
 use Rattle.ps_journal.specs.Retiring.{Retires}
 use Rattle.ps_journal.specs.Pinning.{Pins}
-use Rattle.ps_journal.specs.History.{Entry, LeadsTo, IsLegal, start, next}
+use Rattle.ps_journal.specs.History.{Entry, IsLegal, start, next}
 use Rattle.qasm_expand.specs.declared.tables.Table.{Table}
 use Rattle.ps_prim.specs.declared.items.Item.{Item as AnItem}
 use Rattle.ps_versions.specs.Held.{Held}

@@ -1,5 +1,5 @@
 -- What a book tells of the missing segments of a version, in the state that its journal leads to.
-use Rattle.std.proofs.Common.{◌≡◌, ℕ, zero, suc, ◌+◌, ◌<◌, ◌≤◌, Bool, true, false, ◌||◌, List, [], ◌∷◌, ◌++◌, length, map, refl, sym, ap, ap₂, ◌∙◌, subst, arith}
+use Rattle.std.proofs.Common.{◌≡◌, ℕ, ◌≤◌, true, ◌||◌, List, [], ◌∷◌, ◌++◌, length, refl, sym, ap, ◌∙◌, subst, arith}
 use Rattle.std.specs.Prelude.{Option, Some, None, is_none, nat_lt}
 use Rattle.std.proofs.Props.{props}
 use Rattle.std.proofs.lemmas.List.{length-append}
@@ -12,14 +12,13 @@ use Rattle.ps_versions.specs.Held as held
 use Rattle.ps_versions.specs.Lives as lives
 use Rattle.ps_versions.specs.Questions as held_questions
 use Rattle.ps_versions.specs.Questions.{segments, segments_maybe, missing_in, lacks}
-use Rattle.ps_journal.specs.State.{State, Version, Circuit, Item, circuit_at, version_at, Finds}
+use Rattle.ps_journal.specs.State.{State, Version, Circuit, circuit_at, version_at, Finds}
 use Rattle.ps_journal.specs.Mapped.{mapped, mapped_maybe}
 use Rattle.ps_journal.specs.Segments as model
 use Rattle.ps_journal.specs.Segments.{segments_of}
 use Rattle.ps_journal.specs.Keeping.{is_kept, is_pinned}
 use Rattle.ps_journal.specs.History.{Entry, LeadsTo}
-use Rattle.ps_views.specs.Counts.{pins_on}
-use Rattle.ps_views.specs.Views.{item_at, tree_of, version_of}
+use Rattle.ps_views.specs.Views.{item_at, version_of}
 use Rattle.ps_views.specs.Fields.{Fields, IsSound, held_at}
 use Rattle.ps_views.specs.Stands.{Stands}
 use Rattle.ps_views.proofs.Lookups.{finds_held, sees_version, held_seen}

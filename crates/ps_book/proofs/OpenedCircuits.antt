@@ -1,6 +1,6 @@
 -- What is answered when a circuit is opened, and the fields with that circuit.
-use Rattle.std.proofs.Common.{◌≡◌, ◌<◌, ◌≤◌, ◌⊎◌, inl, inr, ℕ, zero, suc, ◌+◌, List, [], ◌∷◌, ◌++◌, length, refl, sym, ap, ap₂, ◌∙◌, subst, arith}
-use Rattle.std.specs.Prelude.{Option, Some, None, map, Ok, Err}
+use Rattle.std.proofs.Common.{◌≡◌, ◌<◌, ◌≤◌, inl, inr, ℕ, List, [], ◌∷◌, ◌++◌, length, refl, sym, ap, ap₂, ◌∙◌, subst, arith}
+use Rattle.std.specs.Prelude.{Option, Some, None, Ok, Err}
 use Rattle.std.specs.List.{range_with_len}
 use Rattle.std.specs.declared.sync.Arc.{Arc}
 use Rattle.std.specs.declared.alloc.Global.{Global}
@@ -12,7 +12,6 @@ use Rattle.qasm_expand.specs.declared.fault.ReadFault.{ReadFault}
 use Rattle.qasm_expand.specs.declared.fault.ReadFault.TheVariants.{Fault, Memory}
 use Rattle.qasm_expand.specs.Circuits.{TableOf, CircuitOf, ReadsText}
 use Rattle.qasm_expand.specs.Reading.{table_in, CircuitTold}
-use Rattle.ps_script.specs.declared.name.Place.{Place}
 use Rattle.ps_versions.specs.Held as held
 use Rattle.ps_versions.specs.Held.{Held}
 use Rattle.ps_versions.specs.Lookup as lookup
@@ -24,7 +23,7 @@ use Rattle.ps_journal.specs.declared.seats.Pin.{Pin}
 use Rattle.ps_journal.specs.declared.seats.Claim.{Claim}
 use Rattle.ps_journal.specs.declared.replies.Reply.{Reply}
 use Rattle.ps_journal.specs.declared.replies.Reply.TheVariants as reply
-use Rattle.ps_journal.specs.State.{Circuit, State, circuit_at}
+use Rattle.ps_journal.specs.State.{State}
 use Rattle.ps_journal.specs.Segments.{missing}
 use Rattle.ps_journal.specs.Opening as journal
 use Rattle.ps_journal.specs.Opening.{name_taken, circuits_full, bad, opens, first_version, opened}
@@ -39,8 +38,8 @@ use Rattle.ps_views.proofs.Replies.{circuit_told}
 use Rattle.ps_views.proofs.Plantings.{forest_planted}
 use Rattle.ps_views.proofs.Missing.{missing_told}
 use Rattle.ps_views.proofs.Openings.{with_opened, sound_opened, stands_opened, version_new}
-use Rattle.ps_book.specs.Wanting.{Starves, OpensOr}
-use Rattle.ps_book.specs.Additions.{TellsBad, TellsFault, AddsCircuit, IsOpened, OpensRead}
+use Rattle.ps_book.specs.Wanting.{OpensOr}
+use Rattle.ps_book.specs.Additions.{TellsBad, TellsFault, AddsCircuit, OpensRead}
 
 -- ---- how many circuits there are
 length-circuits_of : (items : List _) (nodes : List (Tree ℕ)) (ts : List TableOf) (cs : List held.Circuit) → length ts ≡ length cs → length (circuits_of items nodes ts cs) ≡ length cs

@@ -1,11 +1,10 @@
 -- What is answered when a record is published, and the fields that are left.
 use Rattle.std.proofs.Common.{◌≡◌, ◌<◌, ◌≤◌, inl, inr, ℕ, ◌+◌, length, refl, sym, ap, ap₂, ◌∙◌, subst, arith}
-use Rattle.std.specs.Prelude.{List, Option, Some, None, slice_set, slice_index_or}
+use Rattle.std.specs.Prelude.{Option, Some, None, slice_set, slice_index_or}
 use Rattle.std.specs.declared.sync.Arc.{Arc}
 use Rattle.std.specs.declared.alloc.Global.{Global}
-use Rattle.seg_tree.specs.Trees.{Tree}
 use Rattle.ps_reach.specs.declared.record.Record.{Record}
-use Rattle.ps_versions.specs.Held.{Held, Version, Circuit}
+use Rattle.ps_versions.specs.Held.{Held, Version}
 use Rattle.ps_versions.specs.Told.{Tells}
 use Rattle.ps_versions.specs.declared.data.State.{State as Told}
 use Rattle.ps_versions.specs.Records.{record_at}
@@ -21,8 +20,8 @@ use Rattle.ps_views.specs.Objections.{Objects, IsFree, IsRecordAt, refuses, ende
 use Rattle.ps_views.specs.declared.filed.Filed.{Filed}
 use Rattle.ps_views.proofs.SeatLaws.{unclaimed_stands, refused_stands}
 use Rattle.ps_views.proofs.Storing.{with_filed, filed_stands}
-use Rattle.ps_views.proofs.Publications.{objected, claim_stands, is_other, is_crowded, is_published}
-use Rattle.ps_book.specs.Wanting.{Starves, PublishesOr}
+use Rattle.ps_views.proofs.Publications.{objected, is_other, is_crowded, is_published}
+use Rattle.ps_book.specs.Wanting.{PublishesOr}
 
 -- where nothing stands against a claim, it is free
 pub free_of : (f : Fields) (claim : Claim) (o : Option Reply) → Objects f claim o → o ≡ None → IsFree f claim

@@ -1,8 +1,8 @@
 -- What the fields stand for once the pins of a seat are released.
-use Rattle.std.proofs.Common.{◌≡◌, ◌<◌, ◌≤◌, ℕ, zero, suc, List, [], ◌∷◌, length, refl, sym, ap, ◌∙◌, subst, arith}
+use Rattle.std.proofs.Common.{◌≡◌, ◌<◌, ℕ, zero, suc, List, [], ◌∷◌, length, refl, sym, ap, subst, arith}
 use Rattle.std.specs.Prelude.{Option, Some, None, slice_set, slice_index_or}
 use Rattle.ps_script.specs.declared.name.Place.{Place}
-use Rattle.ps_versions.specs.Held.{Held, Version}
+use Rattle.ps_versions.specs.Held.{Held}
 use Rattle.ps_versions.specs.Lives.{IsLive}
 use Rattle.ps_journal.specs.declared.seats.Pin.{Pin}
 use Rattle.ps_journal.specs.State.{State}
@@ -10,7 +10,7 @@ use Rattle.ps_journal.specs.Keeping.{unpinned}
 use Rattle.ps_journal.specs.Pinning.{new_pin}
 use Rattle.ps_journal.specs.Pinning as pinning
 use Rattle.ps_views.specs.Counts.{pins_by}
-use Rattle.ps_views.specs.Fields.{Fields, IsSound, held_at, pin_at}
+use Rattle.ps_views.specs.Fields.{Fields, IsSound, pin_at}
 use Rattle.ps_views.specs.Stands.{Stands}
 use Rattle.ps_views.specs.Living.{LivesAt}
 use Rattle.ps_views.specs.Changes.{Becomes, Fades, Rises, Carries, HasRoom, Holds, IsLiveAt, IsLiveAtMaybe}

@@ -1,5 +1,5 @@
 -- What pinning is answered.
-use Rattle.std.proofs.Common.{◌≡◌, ◌<◌, ℕ, length, refl, sym, ap, ◌∙◌, subst}
+use Rattle.std.proofs.Common.{◌≡◌, ℕ, length, refl, sym, subst}
 use Rattle.std.specs.Prelude.{Option, Some, None}
 use Rattle.ps_script.specs.declared.name.Place.{Place}
 use Rattle.ps_journal.specs.declared.replies.Reply.{Reply}

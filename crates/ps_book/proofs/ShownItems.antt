@@ -1,6 +1,6 @@
 -- What is answered when the items of a version are shown.
 use Rattle.std.proofs.Common.{◌≡◌, ◌<◌, ◌≤◌, inl, ℕ, ◌+◌, length, refl, sym, ap, ◌∙◌, subst, arith}
-use Rattle.std.specs.Prelude.{Option, Some, None, IsSome, map}
+use Rattle.std.specs.Prelude.{IsSome, map}
 use Rattle.seg_tree.specs.Trees.{run_maybe}
 use Rattle.seg_tree.specs.Table.{root_tree}
 use Rattle.qasm_expand.specs.Circuits.{TableOf}
@@ -8,14 +8,13 @@ use Rattle.ps_script.specs.declared.name.Place.{Place}
 use Rattle.ps_versions.specs.Lookup.{root_of}
 use Rattle.ps_journal.specs.declared.replies.Reply.{Reply}
 use Rattle.ps_journal.specs.declared.replies.Reply.TheVariants as reply
-use Rattle.ps_journal.specs.State.{Item, State, FindsLive, with_terms, most_terms}
+use Rattle.ps_journal.specs.State.{State, FindsLive, with_terms, most_terms}
 use Rattle.ps_journal.specs.Pinning.{Refuses}
 use Rattle.ps_journal.specs.Showing.{Reads, refused, no_room, shows}
 use Rattle.ps_journal.proofs.Mapping.{run-mapped_maybe}
 use Rattle.ps_views.specs.Views.{item_at, version_of, circuit_of}
 use Rattle.ps_views.specs.Fields.{Fields, IsSound, held_at}
-use Rattle.ps_views.specs.Living.{LivesAt}
-use Rattle.ps_views.specs.Stands.{Stands, Leaves}
+use Rattle.ps_views.specs.Stands.{Stands}
 use Rattle.ps_views.proofs.Lookups.{mapped_length}
 use Rattle.ps_views.proofs.Replies.{finds_at}
 use Rattle.ps_book.specs.Wanting.{ReadsOr}

@@ -1,11 +1,11 @@
 -- What is answered when a circuit gets its next version, and the fields with that version.
-use Rattle.std.proofs.Common.{◌≡◌, ◌<◌, ◌≤◌, ◌⊎◌, inl, inr, ℕ, zero, suc, ◌+◌, ◌-◌, List, [], ◌∷◌, ◌++◌, length, take, drop, refl, sym, ap, ap₂, ◌∙◌, subst, arith, length-append}
+use Rattle.std.proofs.Common.{◌≡◌, ◌<◌, ◌≤◌, ◌⊎◌, inl, inr, ℕ, zero, suc, ◌+◌, ◌-◌, List, [], ◌∷◌, ◌++◌, length, take, drop, refl, sym, ap, ◌∙◌, subst, arith, length-append}
 use Rattle.std.proofs.lemmas.List.{length-take-le, length-drop}
-use Rattle.std.specs.Prelude.{Option, Some, None, IsSome, map, Ok, Err, ◌≢◌, slice_get}
+use Rattle.std.specs.Prelude.{Option, Some, None, IsSome, Ok, Err, slice_get}
 use Rattle.std.specs.List.{range_with_len}
 use Rattle.std.specs.declared.sync.Arc.{Arc}
 use Rattle.std.specs.declared.alloc.Global.{Global}
-use Rattle.seg_tree.specs.Trees.{Tree, run_maybe, splice}
+use Rattle.seg_tree.specs.Trees.{run_maybe, splice}
 use Rattle.seg_tree.specs.Table.{root_tree}
 use Rattle.ps_prim.specs.declared.items.Item.{Item as AnItem}
 use Rattle.qasm_expand.specs.declared.tables.Table.{Table}
@@ -47,7 +47,7 @@ use Rattle.ps_views.proofs.Replies.{circuit_told, no_circuit_told}
 use Rattle.ps_views.proofs.Plantings.{forest_planted}
 use Rattle.ps_views.proofs.Missing.{missing_told}
 use Rattle.ps_views.proofs.Splicings.{with_spliced, sound_spliced, stands_spliced, version_next}
-use Rattle.ps_book.specs.Wanting.{Starves, SplicesOr}
+use Rattle.ps_book.specs.Wanting.{SplicesOr}
 use Rattle.ps_book.proofs.OpenedCircuits.{numbers_of}
 use Rattle.ps_book.specs.Additions.{TellsBad, TellsFault, HasRange, AddsVersion, ReadsAs}
 

@@ -1,12 +1,10 @@
 -- What a settled version comes to, as the tables tell it.
-use Rattle.std.proofs.Common.{◌≡◌, ◌<◌, ◌≤◌, ℕ, zero, suc, List, length, refl, sym, ap, ap₂, ◌∙◌, subst, arith, Bool, true, false, ◌||◌, inl, inr}
-use Rattle.std.specs.Prelude.{Option, Some, None, is_some, IsSome, MatchOption, slice_get}
+use Rattle.std.proofs.Common.{◌≡◌, ◌<◌, ◌≤◌, ℕ, length, refl, sym, ap, ◌∙◌, subst, Bool, true, false, ◌||◌, inl, inr}
+use Rattle.std.specs.Prelude.{Option, Some, None, is_some, IsSome, MatchOption}
 use Rattle.std.specs.List.{list_any}
-use Rattle.seg_tree.specs.Trees.{Tree, name_of}
+use Rattle.seg_tree.specs.Trees.{name_of}
 use Rattle.seg_tree.specs.Table.{tree, root_tree}
 use Rattle.ps_script.specs.declared.name.Place.{Place}
-use Rattle.ps_versions.specs.Held as held
-use Rattle.ps_versions.specs.Lookup as lookup
 use Rattle.ps_versions.specs.Lookup.{place_of, circuit_in, root_of}
 use Rattle.ps_versions.specs.Records.{record_at, IsPassedIn}
 use Rattle.ps_versions.specs.Questions as questions
@@ -17,8 +15,8 @@ use Rattle.ps_journal.specs.declared.seats.Pin.{Pin}
 use Rattle.ps_journal.specs.declared.commands.Outcome.{Outcome}
 use Rattle.ps_journal.specs.declared.commands.Outcome.TheVariants.{Done}
 use Rattle.ps_journal.specs.declared.replies.Reply.{Reply}
-use Rattle.ps_journal.specs.declared.replies.Reply.TheVariants.{SumIs, Unsettled, Memory}
-use Rattle.ps_journal.specs.State.{State, Version, Circuit, Finds, pin_of}
+use Rattle.ps_journal.specs.declared.replies.Reply.TheVariants.{Unsettled, Memory}
+use Rattle.ps_journal.specs.State.{State, Version, Circuit, Finds}
 use Rattle.ps_journal.specs.Segments as model
 use Rattle.ps_journal.specs.Keeping.{unpinned}
 use Rattle.ps_journal.specs.Summing.{IsIdentity, ComesTo, ComesToAt, Sums}
@@ -34,7 +32,6 @@ use Rattle.ps_views.proofs.Missing.{missing_told}
 use Rattle.ps_views.proofs.ReadyLaws.{rooted_at}
 use Rattle.ps_views.proofs.Replies.{finds_at, finds_same}
 use Rattle.ps_views.proofs.Settlements.{comes_to_nothing, comes_to_root, comes_to_limit}
-use Rattle.ps_book.specs.Wanting.{SumsOr}
 use Rattle.ps_book.specs.Conclusions.{TellsSum, IsDeciding, ConcludesSum, ConcludesDone}
 
 or_first : (a b : Bool) → (a || b) ≡ true → b ≡ false → a ≡ true

@@ -1,5 +1,5 @@
 -- The number of kept terms grows.
-use Rattle.std.proofs.Common.{◌≡◌, ◌+◌, ◌≤◌, ℕ, ap}
+use Rattle.std.proofs.Common.{◌+◌, ◌≤◌, ℕ, ap}
 use Rattle.ps_journal.specs.State.{State, with_terms, most_terms}
 use Rattle.ps_views.specs.Fields.{Fields, IsSound}
 use Rattle.ps_views.specs.Stands.{Stands}

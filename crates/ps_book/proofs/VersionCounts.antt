@@ -1,5 +1,5 @@
 -- No circuit has more versions than the history has entries.
-use Rattle.std.proofs.Common.{◌≡◌, ◌<◌, ◌≤◌, ℕ, zero, suc, ◌+◌, Bool, true, false, cond, List, [], ◌∷◌, ◌++◌, length, refl, sym, ap, ◌∙◌, subst, arith, length-append}
+use Rattle.std.proofs.Common.{◌≡◌, ◌<◌, ◌≤◌, ℕ, zero, suc, ◌+◌, Bool, true, false, cond, List, [], ◌∷◌, ◌++◌, length, refl, sym, subst, arith, length-append}
 use Rattle.std.proofs.Props.{props}
 use Rattle.std.specs.Prelude.{Option, Some, None, map, bytes_eq, slice_set}
 use Rattle.std.specs.List.{AllByRecursion}
@@ -17,7 +17,7 @@ use Rattle.ps_journal.specs.declared.commands.Cmd.TheVariants as cmd
 use Rattle.ps_journal.specs.declared.commands.Outcome.{Outcome}
 use Rattle.ps_journal.specs.declared.replies.Reply.{Reply}
 use Rattle.ps_journal.specs.State.{Version, Circuit, State, circuit_at, with_circuit, with_version, with_next, released, unclaimed}
-use Rattle.ps_journal.specs.Keeping.{noted_versions, noted_circuit, noted, unpinned}
+use Rattle.ps_journal.specs.Keeping.{noted_versions, noted_circuit, unpinned}
 use Rattle.ps_journal.specs.Opening as opening
 use Rattle.ps_journal.specs.Opening.{Opens}
 use Rattle.ps_journal.specs.Splicing as splicing
@@ -39,7 +39,6 @@ use Rattle.ps_journal.specs.Showing.{Reads}
 use Rattle.ps_journal.specs.Step.{Step, Serves, starved, serves, wants}
 use Rattle.ps_journal.specs.History.{Entry, LeadsTo, start, next}
 use Rattle.ps_views.specs.Fields.{Fields, IsSound}
-use Rattle.ps_views.specs.Stands.{Stands}
 use Rattle.ps_views.proofs.Lists.{all_append, all_weaker}
 use Rattle.ps_views.proofs.Lookups.{circuit_held, circuit_seen, latest_seen}
 use Rattle.ps_book.specs.Lawful.{IsLawful}

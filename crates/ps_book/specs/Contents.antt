@@ -1,5 +1,5 @@
 -- The items of the version at a place.
-use Rattle.std.specs.Prelude.{ℕ, ◌≡◌, List}
+use Rattle.std.specs.Prelude.{ℕ, List}
 use Rattle.seg_tree.specs.Trees.{run_maybe}
 use Rattle.seg_tree.specs.Table.{root_tree}
 use Rattle.ps_script.specs.declared.name.Place.{Place}

@@ -1,5 +1,5 @@
 -- Which segments have these items.
-use Rattle.std.specs.Prelude.{ℕ, ◌≡◌, List, Contains, map}
+use Rattle.std.specs.Prelude.{ℕ, ◌≡◌, List, Contains}
 use Rattle.seg_tree.specs.Trees.{Tree, run}
 use Rattle.ps_versions.specs.Questions.{segments}
 use Rattle.ps_journal.specs.State.{Item}

@@ -1,4 +1,4 @@
-use Rattle.std.proofs.Common.{◌≡◌, sym, subst}
+use Rattle.std.proofs.Common.{sym, subst}
 use Rattle.ps_views.proofs.Pinned.{has_pinned}
 use Rattle.ps_journal.specs.Keeping.{unpinned}
 use Rattle.ps_book.specs.Conclusions.{Fits}

@@ -1,4 +1,4 @@
-use Rattle.std.proofs.Common.{◌≡◌, sym, subst}
+use Rattle.std.proofs.Common.{sym, subst}
 use Rattle.ps_journal.specs.Summing.{GivesUp}
 use Rattle.ps_book.specs.Conclusions.{Concludes}
 use Rattle.ps_book.specs.Services.{fields_of}

@@ -1,4 +1,4 @@
-use Rattle.std.proofs.Common.{◌≡◌, ◌&&◌, subst, ap}
+use Rattle.std.proofs.Common.{◌&&◌, subst, ap}
 use Rattle.ps_book.specs.Conclusions.{TellsOne, TellsPair}
 use Rattle.ps_book.specs.Services.{fields_of}
 use Rattle.ps_book.proofs.Belonging.{both_belong}

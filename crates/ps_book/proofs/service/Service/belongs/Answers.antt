@@ -1,7 +1,6 @@
-use Rattle.std.proofs.Common.{◌≡◌, sym, subst, ap, ◌∙◌, map}
+use Rattle.std.proofs.Common.{◌≡◌, sym, subst, ◌∙◌}
 use Rattle.std.specs.Prelude.{IsTrue, ◌↔◌}
 use Rattle.seg_tree.specs.Table.{tree}
-use Rattle.ps_reach.specs.Runs.{prims_of}
 use Rattle.ps_views.specs.Views.{run_at}
 use Rattle.ps_book.specs.Runs.{HasRun}
 use Rattle.ps_book.specs.Services.{fields_of}

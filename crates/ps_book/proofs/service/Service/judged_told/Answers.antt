@@ -1,4 +1,4 @@
-use Rattle.std.proofs.Common.{◌≡◌, ◌<◌, ◌≤◌, sym, subst, ap, ◌∙◌, arith}
+use Rattle.std.proofs.Common.{subst, ap, ◌∙◌, arith}
 use Rattle.ps_journal.specs.Judging.{size}
 use Rattle.ps_book.specs.Conclusions.{TellsPair}
 use Rattle.ps_book.specs.Services.{fields_of}

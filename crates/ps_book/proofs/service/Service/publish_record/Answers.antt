@@ -1,12 +1,10 @@
-use Rattle.std.proofs.Common.{◌≡◌, ◌<◌, ◌≤◌, ◌+◌, ℕ, length, Bool, true, false, refl, sym, ap, ap₂, ◌∙◌, subst, arith}
-use Rattle.std.specs.Prelude.{Some, None, IsTrue, slice_set}
-use Rattle.ps_versions.specs.Held.{Held}
+use Rattle.std.proofs.Common.{◌≡◌, ◌<◌, ◌+◌, length, Bool, true, false, sym, ap, ap₂, ◌∙◌, subst}
+use Rattle.std.specs.Prelude.{Some, None, slice_set}
 use Rattle.ps_versions.specs.Records.{record_at, ChildrenHaveSums}
 use Rattle.ps_versions.specs.Reached.{is_reached}
 use Rattle.seg_tree.specs.Table.{tree}
 use Rattle.ps_journal.specs.Publishing.{size}
 use Rattle.ps_views.specs.Fields.{Fields, fields, IsSound, passed}
-use Rattle.ps_views.specs.Tasks.{unclaims}
 use Rattle.ps_views.specs.Objections.{IsRecordAt, refuses}
 use Rattle.ps_views.specs.declared.filed.Filed.{Filed}
 use Rattle.ps_views.proofs.Storing.{with_record, with_filed, filed_sound}

@@ -1,4 +1,4 @@
-use Rattle.std.proofs.Common.{◌≡◌, ◌∷◌, [], ◌++◌, length, sym, ap, subst, arith}
+use Rattle.std.proofs.Common.{◌≡◌, length, sym, subst, arith}
 use Rattle.ps_journal.specs.State.{State}
 use Rattle.ps_journal.specs.Step.{Step}
 use Rattle.ps_journal.specs.History.{Entry}
