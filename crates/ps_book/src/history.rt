@@ -2,6 +2,7 @@
 ghost use Rattle.std.specs.Prelude.{◌≡◌, [], IfOk};
 ghost use Rattle.ps_journal.specs.State.{State};
 ghost use Rattle.ps_journal.specs.History.{LeadsTo, IsLegal};
+ghost use Rattle.ps_history.specs.Commits.{CommitsWithin};
 ghost use Rattle.ps_book.specs.Books.{entries, Misses};
 
 use crate::book::Book;
@@ -25,18 +26,22 @@ impl Book {
         })
     }
 
-    /// The entries so far, the oldest first. They are a legal history. Takes no memory.
+    /// The entries so far, the oldest first. They are a legal history, in which each committed splice left few segments
+    /// without a record: at most those of its base, 64 for each level of its trees and 2 for each item. Takes no memory.
     pub fn journal(&self) -> &[Entry]
         ensures value { result.now ≡ entries self.now }
         ensures legal { IsLegal result.now }
+        ensures bounded { CommitsWithin result.now }
     {
         &self.journal
     }
 
-    /// The entries, the oldest first. They are a legal history. Takes no memory.
+    /// The entries, the oldest first. They are a legal history, in which each committed splice left few segments without
+    /// a record, as [`Book::journal`] says. Takes no memory.
     pub fn into_journal(self) -> Vec<Entry>
         ensures value { result.items ≡ entries self }
         ensures legal { IsLegal result.items }
+        ensures bounded { CommitsWithin result.items }
     {
         self.journal
     }

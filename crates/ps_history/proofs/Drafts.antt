@@ -1,8 +1,10 @@
 -- Trees whose names stand for their items: what is made of them, and the names that their new nodes get.
-use Rattle.std.proofs.Common.{◌≡◌, ◌+◌, ◌-◌, ℕ, zero, suc, Bool, true, false, cond, inl, inr, List, [], ◌∷◌, ◌++◌, length, take, drop, refl, sym, ap, ap₂, ◌∙◌, subst, arith, eqb, nat_le, nat_lt, length-append, append_assoc}
+use Rattle.std.proofs.Common.{◌≡◌, ◌≤◌, ◌+◌, ◌-◌, ℕ, zero, suc, Bool, true, false, cond, inl, inr, List, [], ◌∷◌, ◌++◌, length, take, drop, refl, sym, ap, ap₂, ◌∙◌, subst, arith, eqb, nat_le, nat_lt, length-append, append_assoc}
 use Rattle.std.specs.Prelude.{Option, Some, None, slice_get, Contains}
 use Rattle.std.proofs.lemmas.List.Elements.{Contains-append_cases}
 use Rattle.seg_tree.specs.Trees.{Tree, leaf, branch, name_of, run, run_maybe, height, left_of, right_of, fork, rotate_left, rotate_right, balance, adjoin, graft_right, graft_left, join, concat, split, split_maybe, front_size, built, build, splice, made, named}
+use Rattle.seg_tree.specs.Measures.{IsBalanced, IsBalancedMaybe}
+use Rattle.seg_tree.proofs.Growing.{height-named}
 use Rattle.ps_journal.specs.State.{Item}
 use Rattle.ps_journal.specs.Segments.{segments, segments_of, with_names, new_names}
 use Rattle.ps_history.specs.Nodes.{Node, node, StandsFor, IsKnown, IsKnownMaybe, IsDraft, IsDraftMaybe, new_nodes, new_nodes_maybe}
@@ -178,6 +180,22 @@ run_named n (branch (Some k) l r) = refl
 pub run_with_names : (n : ℕ) (t : Option (Tree Item)) → run_maybe (with_names n t) ≡ run_maybe t
 run_with_names n None = refl
 run_with_names n (Some t) = run_named n t
+
+-- names change nothing of the shape
+balanced_named : (n : ℕ) (t : Tree Item) → IsBalanced t → IsBalanced (named n t)
+balanced_named n (leaf None items) h = tt
+balanced_named n (leaf (Some k) items) h = tt
+balanced_named n (branch None l r) h = (
+  balanced_named n l h.0,
+  balanced_named (n + made l) r h.1,
+  omega (arith, height-named n l, height-named (n + made l) r, h.2),
+  omega (arith, height-named n l, height-named (n + made l) r, h.3),
+)
+balanced_named n (branch (Some k) l r) h = h
+
+pub balanced_with_names : (n : ℕ) (t : Option (Tree Item)) → IsBalancedMaybe t → IsBalancedMaybe (with_names n t)
+balanced_with_names n None h = tt
+balanced_with_names n (Some t) h = balanced_named n t h
 
 count_new : (q : ℕ) (t : Tree Item) → length (new_nodes q t) ≡ made t
 count_new q (leaf None items) = refl

@@ -11,3 +11,5 @@ pub mod Standing
 pub mod Turns
 pub mod Rounds
 pub mod Ends
+pub mod SegmentCounts
+pub mod CommittedBound

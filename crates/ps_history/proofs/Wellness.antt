@@ -7,7 +7,10 @@ use Rattle.std.specs.declared.alloc.Global.{Global}
 use Rattle.std.proofs.lemmas.Bool.{eqb-true}
 use Rattle.std.proofs.lemmas.List.{length-replicate, length-set}
 use Rattle.seg_tree.specs.Trees.{Tree, run, run_maybe, build, splice}
+use Rattle.seg_tree.specs.Measures.{IsBalancedMaybe}
 use Rattle.seg_tree.proofs.Runs.{run-build}
+use Rattle.seg_tree.proofs.Built.{balanced-build}
+use Rattle.seg_tree.proofs.Fresh.{balanced-splice}
 use Rattle.seg_tree.proofs.Splices.{run-splice}
 use Rattle.ps_prim.specs.declared.prims.Primitive.{Primitive as Prim}
 use Rattle.ps_prim.specs.Maps.{AllWithin}
@@ -48,13 +51,14 @@ use Rattle.ps_history.specs.Nodes.{Node, node, StandsFor, IsKnownMaybe, new_node
 use Rattle.ps_history.proofs.Lists.{get_front, some_same}
 use Rattle.ps_history.proofs.Lookups.{at_step, same_bytes, bytes_same, circuit_mapped}
 use Rattle.ps_history.proofs.Passing.{Passes, step_passes}
-use Rattle.ps_history.proofs.Drafts.{known_maybe_more, known_within, known_stands, names_known, build_draft, splice_draft, run_with_names, count_new_maybe}
+use Rattle.ps_history.proofs.Drafts.{known_maybe_more, known_within, known_stands, names_known, build_draft, splice_draft, run_with_names, balanced_with_names, count_new_maybe}
 use Rattle.ps_history.proofs.Reading.{IsReady, IsReadable, text_readable, block_within}
 
 -- ---- what holds
--- the version's tree is of its items and its names stand for them; it hasn't ended while it is live; its items are few and on the circuit's qubits
+-- the version's tree is balanced and of its items, and its names stand for them; it hasn't ended while it is live; its items are few and on the circuit's qubits
 pub record IsWellVersion (table : List Node) (q : ℕ) (v : Version) : Type 0 where
   pub tree : IsKnownMaybe table q v.tree
+  pub balanced : IsBalancedMaybe v.tree
   pub run : run_maybe v.tree ≡ v.items
   pub live : v.retired ≡ None → v.ended ≡ None
   pub few : length v.items ≤ 65536
@@ -176,7 +180,7 @@ apart_last (c ∷ cs) d h e = let s = none_step c cs d.name e in (none_last cs d
 -- ---- longer tables
 module _ (table more : List Node) where
   version_longer : (q : ℕ) (v : Version) → IsWellVersion table q v → IsWellVersion (table ++ more) q v
-  version_longer q v h = record { tree = known_maybe_more table more q v.tree h.tree; run = h.run; live = h.live; few = h.few; within = h.within }
+  version_longer q v h = record { tree = known_maybe_more table more q v.tree h.tree; balanced = h.balanced; run = h.run; live = h.live; few = h.few; within = h.within }
 
   circuit_longer : (c : Circuit) → IsWellCircuit table c → IsWellCircuit (table ++ more) c
   circuit_longer c h =
@@ -200,6 +204,7 @@ module _ (table : List Node) where
   versions_noted i pins name q k (v ∷ vs) h = (
     record {
       tree = h.0.tree;
+      balanced = h.0.balanced;
       run = h.0.run;
       live = λ e. kept_live i pins (record { name = name; version = k }) v e ∙ h.0.live e;
       few = h.0.few;
@@ -214,7 +219,7 @@ module _ (table : List Node) where
   versions_retired : (i q k : ℕ) (vs : List Version) → Each (IsWellVersion table q) vs → Each (IsWellVersion table q) (with_version (retired_version i) k vs)
   versions_retired i q zero vs h = h
   versions_retired i q (suc k) [] h = tt
-  versions_retired i q (suc zero) (v ∷ vs) h = (record { tree = h.0.tree; run = h.0.run; live = λ e. absurd (cc); few = h.0.few; within = h.0.within }, h.1)
+  versions_retired i q (suc zero) (v ∷ vs) h = (record { tree = h.0.tree; balanced = h.0.balanced; run = h.0.run; live = λ e. absurd (cc); few = h.0.few; within = h.0.within }, h.1)
   versions_retired i q (suc (suc k)) (v ∷ vs) h = (h.0, versions_retired i q (suc k) vs h.1)
 
   circuit_retired : (i k : ℕ) (c : Circuit) → IsWellCircuit table c → IsWellCircuit table (retired_in i k c)
@@ -331,6 +336,7 @@ module _ (t : State) (w : IsWell t) where
       let longer : List Node = w.table ++ more in
       let first : IsWellVersion longer c.qubits (first_version t.names c) = record {
         tree = names_known w.table c.qubits t.names (build c.items) (sym w.names) (build_draft w.table c.qubits c.items);
+        balanced = balanced_with_names t.names (build c.items) (balanced-build c.items);
         run = run_with_names t.names (build c.items) ∙ run-build c.items;
         live = λ e. refl;
         few = h.few;
@@ -361,6 +367,8 @@ module _ (t : State) (w : IsWell t) where
       let inside : to ≤ length (run_maybe v.tree) = subst (λ xs. to ≤ length xs) (sym f.version.run) r.inside in
       let version : IsWellVersion longer c.qubits (next_version t.names v from to items) = record {
         tree = names_known w.table c.qubits t.names made (sym w.names) (splice_draft w.table c.qubits v.tree from to items f.version.tree);
+        balanced =
+            balanced_with_names t.names made (balanced-splice v.tree from to items r.ordered inside f.version.balanced (balanced-build items));
         run = run_with_names t.names made ∙ run-splice v.tree from to items r.ordered inside ∙ ap (λ xs. replaced xs from to items) f.version.run;
         live = λ e. refl;
         few = few;

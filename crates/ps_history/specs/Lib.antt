@@ -7,3 +7,4 @@ pub mod Stages
 pub mod Nodes
 pub mod Taken
 pub mod After
+pub mod Commits
