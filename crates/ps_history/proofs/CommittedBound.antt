@@ -93,7 +93,7 @@ commits_within one es legal before after seat name base from to block version m 
     let first : IsLegal (before ++ e ∷ []) =
     legal_beginning (before ++ e ∷ []) after (subst IsLegal (whole ∙ sym (append_assoc before (e ∷ []) after)) legal) in
     ∥∥₁_elim first (hlevel props) (λ p.
-      let s = last_step before e p.0 p.1 in
-      let step : Step t (length before) seat (cmd.Splice name base from to block) (Committed version m) p.0 =
-      subst (λ x. Step x (length before) seat (cmd.Splice name base from to block) (Committed version m) p.0) (one before s.before t s.leads leads) s.step in
-      entry_few before seat name base from to block version m t p.0 leads step c v items found reads)
+    let s = last_step before e p.0 p.1 in
+    let step : Step t (length before) seat (cmd.Splice name base from to block) (Committed version m) p.0 =
+    subst (λ x. Step x (length before) seat (cmd.Splice name base from to block) (Committed version m) p.0) (one before s.before t s.leads leads) s.step in
+    entry_few before seat name base from to block version m t p.0 leads step c v items found reads)
