@@ -1,0 +1,2 @@
+pub mod Quadratics
+pub mod Laws
