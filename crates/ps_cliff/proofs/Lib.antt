@@ -1,3 +1,5 @@
 pub mod Adding
 pub mod Values
 pub mod Substitution
+pub mod Outputs
+pub mod JoinLaws
