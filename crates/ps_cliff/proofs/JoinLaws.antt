@@ -11,7 +11,7 @@ use Rattle.ps_cliff.specs.Quadratics.{IsQuadratic}
 use Rattle.ps_cliff.specs.Laws.{JoinsStay}
 use Rattle.ps_cliff.proofs.Values.{Turns, turns_same, turns_add, turns_back, Parity}
 use Rattle.ps_cliff.proofs.Substitution.{Substitution, turns_substituted}
-use Rattle.ps_cliff.proofs.Outputs.{turns_of, outs_read, parity_row, affine_back}
+use Rattle.ps_cliff.proofs.Outputs.{turns_of, outs_read, parity_row, parity_values, affine_as}
 
 -- what the second sum reads: the outputs of the first, and its own path variables behind those of the first
 second : PathSum → PathSum → Substitution
@@ -53,5 +53,5 @@ pub joins_stay : JoinsStay
 joins_stay S1 S2 S p q j = record {
   terms = turns_back S.phase S.formed.0 (turns_same (λ a. phase_value S1.phase a + phase_value S2.phase (λ v. second S1 S2 v a)) (phase_value S.phase) (λ a. sym (joined_phase j a))
       (turns_add (phase_value S1.phase) (λ a. phase_value S2.phase (λ v. second S1 S2 v a)) (turns_of S1 p) (turns_substituted S2.phase (second S1 S2) q.terms (λ v o. second_affine j p v))));
-  outputs = affine_back S.outs S2.outs (second S1 S2) S.formed.1 q.outputs (second_affine j p) (joined_outs j);
+  outputs = affine_as S.outs (λ a. values S2.outs (λ v. second S1 S2 v a)) S.formed.1 (parity_values S2.outs (second S1 S2) q.outputs (λ v o. second_affine j p v)) (joined_outs j);
 }

@@ -3,3 +3,4 @@ pub mod Values
 pub mod Substitution
 pub mod Outputs
 pub mod JoinLaws
+pub mod StepLaws

@@ -15,26 +15,26 @@ use Rattle.ps_cliff.proofs.Values.{Turns, turns_same, turns_add, turns_scale, tu
 abbrev pub Substitution : Type 0
 Substitution = ℕ → Assignment → Bool
 
-or_left : (x y : Bool) → x ≡ true → (x || y) ≡ true
+pub or_left : (x y : Bool) → x ≡ true → (x || y) ≡ true
 or_left true y e = refl
 or_left false y e = absurd (clash e)
   where
     clash : false ≡ true → ⊥
     clash e = cc
 
-or_right : (x y : Bool) → y ≡ true → (x || y) ≡ true
+pub or_right : (x y : Bool) → y ≡ true → (x || y) ≡ true
 or_right true y e = refl
 or_right false y e = e
 
-stands_first : (v : ℕ) (m : List ℕ) → stands v (v ∷ m) ≡ true
+pub stands_first : (v : ℕ) (m : List ℕ) → stands v (v ∷ m) ≡ true
 unfolding stands
 stands_first v m = or_left (nat_eq v v) (stands v m) (nat_eq_same v)
 
-stands_second : (u v : ℕ) (m : List ℕ) → stands v (u ∷ v ∷ m) ≡ true
+pub stands_second : (u v : ℕ) (m : List ℕ) → stands v (u ∷ v ∷ m) ≡ true
 unfolding stands
 stands_second u v m = or_right (nat_eq v u) (stands v (v ∷ m)) (stands_first v m)
 
-and_true : (x : Bool) → (x && true) ≡ x
+pub and_true : (x : Bool) → (x && true) ≡ x
 and_true true = refl
 and_true false = refl
 
@@ -45,12 +45,12 @@ parity_holds [] s l h = parity_constant true
 parity_holds (v ∷ []) s l h = parity_same (s v) (λ a. s v a && true) (λ a. sym (and_true (s v a))) (h v (stands_first v []))
 parity_holds (u ∷ v ∷ m) s l h = absurd (omega arith)
 
-scaled : (n : ℕ) (b : Bool) (p : ℕ) → n * 1073741824 ≡ p → n * times b 1073741824 ≡ times b p
+pub scaled : (n : ℕ) (b : Bool) (p : ℕ) → n * 1073741824 ≡ p → n * times b 1073741824 ≡ times b p
 unfolding times
 scaled n true p e = e
 scaled n false p e = omega arith
 
-quarters_of : (p : ℕ) → p % 1073741824 ≡ 0 → p / 1073741824 * 1073741824 ≡ p
+pub quarters_of : (p : ℕ) → p % 1073741824 ≡ 0 → p / 1073741824 * 1073741824 ≡ p
 quarters_of p e = omega arith
 
 turns_none_of : (p : ℕ) (s : Substitution) → Turns (λ a. times (holds [] (λ v. s v a)) p)

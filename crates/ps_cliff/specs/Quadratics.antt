@@ -1,9 +1,16 @@
 -- Quadratic sums: the sums of circuits of Clifford gates, whose phase is a quadratic form and whose outputs are affine.
 use Rattle.std.specs.Prelude.{ℕ, ◌≡◌, ◌≤◌, ◌%◌, List, [], ◌∷◌, length}
+use Rattle.ps_prim.specs.declared.prims.Primitive.{Primitive as Prim}
+use Rattle.ps_prim.specs.declared.prims.Primitive.TheVariants.{U, Cx}
 use Rattle.ps_bool.specs.Polys.{Each}
 use Rattle.ps_phase.specs.declared.terms.Term.{Term}
 use Rattle.ps_overlap.specs.Overlapping.{EachTerm}
 use Rattle.ps_sum.specs.declared.sums.PathSum.{PathSum}
+
+-- each angle is a multiple of half of pi, which is 2^29 units
+abbrev pub IsCliffordGate : Prim → Type 0
+IsCliffordGate (U theta phi lambda q) = (theta % 536870912 ≡ 0) × (phi % 536870912 ≡ 0) × (lambda % 536870912 ≡ 0)
+IsCliffordGate (Cx c t) = Unit {0}
 
 -- at most two variables; one turns by quarters, and two by half a turn
 pub record IsQuadraticTerm (t : Term) : Type 0 where
