@@ -4,3 +4,5 @@ pub mod Substitution
 pub mod Outputs
 pub mod JoinLaws
 pub mod StepLaws
+pub mod LeafLaws
+pub mod OverlapLaws
