@@ -1,5 +1,5 @@
 -- The sum of two quadratic phases is quadratic.
-use Rattle.std.proofs.Common.{◌≡◌, ◌≢◌, ℕ, ◌+◌, ◌%◌, refl, ap, ap₂, sym, ◌∙◌, subst, arith, ◌<◌, ◌≤◌, Bool, true, false, cond, nat_eq, List, [], ◌∷◌, length, Ordering, Less, Equal, Greater}
+use Rattle.std.proofs.Common.{◌≡◌, ◌≢◌, ℕ, ◌+◌, ◌%◌, refl, ap, sym, ◌∙◌, arith, Bool, true, false, cond, nat_eq, List, [], ◌∷◌, length, Ordering, Less, Equal, Greater}
 use Rattle.std.proofs.lemmas.Bool.Decides.{nat_tests}
 use Rattle.ps_mono.specs.Sets.{mono_cmp}
 use Rattle.ps_mono.proofs.Orders.{mono_equal}

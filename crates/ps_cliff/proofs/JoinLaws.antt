@@ -1,5 +1,5 @@
 -- A join of quadratic sums is quadratic.
-use Rattle.std.proofs.Common.{◌≡◌, ◌≢◌, ℕ, zero, suc, ◌+◌, ◌%◌, refl, ap, ap₂, sym, ◌∙◌, subst, arith, ◌<◌, ◌≤◌, Bool, true, false, List, [], ◌∷◌, ◌++◌, length}
+use Rattle.std.proofs.Common.{◌≡◌, ℕ, ◌+◌, ◌%◌, ap, ap₂, sym, ◌∙◌, arith, ◌≤◌, ◌++◌}
 use Rattle.ps_ring.specs.Truths.{Truths, bit}
 use Rattle.ps_ring.specs.Readings.{Assignment, taken}
 use Rattle.ps_phase.specs.Phases.{phase_value}
@@ -9,7 +9,7 @@ use Rattle.ps_sum.proofs.Uniqueness.{phase_read, taken_length, taken_apart}
 use Rattle.ps_join.specs.Joining.{IsJoinOf}
 use Rattle.ps_cliff.specs.Quadratics.{IsQuadratic}
 use Rattle.ps_cliff.specs.Laws.{JoinsStay}
-use Rattle.ps_cliff.proofs.Values.{Turns, turns_same, turns_add, turns_back, Parity}
+use Rattle.ps_cliff.proofs.Values.{turns_same, turns_add, turns_back, Parity}
 use Rattle.ps_cliff.proofs.Substitution.{Substitution, turns_substituted}
 use Rattle.ps_cliff.proofs.Outputs.{turns_of, outs_read, parity_row, parity_values, affine_as}
 

@@ -1,5 +1,5 @@
 -- The sums of Clifford gates, and of no gate, are quadratic.
-use Rattle.std.proofs.Common.{◌≡◌, ◌≢◌, ℕ, zero, suc, ◌+◌, ◌*◌, ◌/◌, ◌%◌, refl, ap, ap₂, sym, ◌∙◌, subst, arith, ◌<◌, ◌≤◌, ◌⊎◌, inl, inr, Bool, true, false, ◌&&◌, cond, List, [], ◌∷◌, ◌++◌, length, set, get_or}
+use Rattle.std.proofs.Common.{◌≡◌, ◌≢◌, ℕ, zero, suc, ◌+◌, ◌*◌, ◌/◌, ◌%◌, refl, ap, ap₂, sym, ◌∙◌, arith, ◌<◌, ◌≤◌, ◌⊎◌, inl, inr, Bool, true, false, ◌&&◌, cond, [], ◌∷◌, ◌++◌, set}
 use Rattle.std.proofs.lemmas.Bool.{cases_lt, cases_eq}
 use Rattle.std.proofs.lemmas.List.{get_or_past, get_or-set_same, get_or-set_other, length-set}
 use Rattle.ps_ring.specs.Truths.{Truths, bit}
@@ -14,11 +14,10 @@ use Rattle.ps_sum.specs.Outs.{values}
 use Rattle.ps_sum.specs.Sums.{path_values}
 use Rattle.ps_sum.specs.declared.sums.PathSum.{PathSum}
 use Rattle.ps_sum.proofs.Uniqueness.{phase_read, taken_length}
-use Rattle.ps_join.specs.Joining.{IsLeafOf, IsIdentityOf}
 use Rattle.ps_join.proofs.LeafSums.{exchanged_is}
-use Rattle.ps_cliff.specs.Quadratics.{IsCliffordGate, IsQuadratic}
+use Rattle.ps_cliff.specs.Quadratics.{IsQuadratic}
 use Rattle.ps_cliff.specs.Laws.{LeavesAre, IdentitiesAre}
-use Rattle.ps_cliff.proofs.Values.{Turns, turns_same, turns_add, turns_scale, turns_constant, turns_quarter, turns_both, turns_back, Parity, parity_same, parity_add, parity_none, parity_constant, parity_variable}
+use Rattle.ps_cliff.proofs.Values.{Turns, turns_same, turns_add, turns_scale, turns_constant, turns_quarter, turns_both, turns_back, Parity, parity_same, parity_add, parity_none, parity_variable}
 use Rattle.ps_cliff.proofs.Substitution.{scaled, quarters_of}
 use Rattle.ps_cliff.proofs.Outputs.{outs_read, parity_taken, affine_as}
 
@@ -106,11 +105,11 @@ module _ {n theta phi lambda q : ℕ} (S : PathSum) (e : S.n ≡ n) (s : TurnedS
       let y : Parity (λ a. a n) = parity_variable n (omega arith) in
       let z : Parity (λ a. a (suc n)) = parity_variable (suc n) (omega arith) in
       turns_add _ _ (turns_add _ _ (turns_add _ _ (turns_add _ _
-          (turns_quarters (λ a. bit (taken 0 n a) q) (2 * lambda + 3221225472) (omega arith) x)
-          (turns_half_where (λ a. bit (taken 0 n a) q) (λ a. a n) x y))
-          (turns_quarters (λ a. a n) (2 * theta) (omega arith) y))
-          (turns_half_where (λ a. a n) (λ a. a (suc n)) y z))
-          (turns_quarters (λ a. a (suc n)) (2 * phi + 1073741824) (omega arith) z)
+      (turns_quarters (λ a. bit (taken 0 n a) q) (2 * lambda + 3221225472) (omega arith) x)
+      (turns_half_where (λ a. bit (taken 0 n a) q) (λ a. a n) x y))
+      (turns_quarters (λ a. a n) (2 * theta) (omega arith) y))
+      (turns_half_where (λ a. a n) (λ a. a (suc n)) y z))
+      (turns_quarters (λ a. a (suc n)) (2 * phi + 1073741824) (omega arith) z)
 
   turned_quadratic : theta % 536870912 ≡ 0 → phi % 536870912 ≡ 0 → lambda % 536870912 ≡ 0 → IsQuadratic S
   turned_quadratic t p l = record {
@@ -128,5 +127,5 @@ leaves_are n (U zero phi lambda q) S c l = plain_quadratic S l.n_is l.values_are
 leaves_are n (U (suc theta) phi lambda q) S c l = turned_quadratic S l.n_is l.values_are c.0 c.1 c.2
 leaves_are n (Cx c t) S h l = plain_quadratic S l.n_is l.values_are (turns_constant 0)
     (λ v. let w : 0 + n ≤ 512 = narrow S l.n_is l.values_are in
-        parity_same (λ a. bit (set (taken 0 n a) t (differ (bit (taken 0 n a) t) (bit (taken 0 n a) c))) v) (λ a. bit (exchanged c t (taken 0 n a)) v) (λ a. ap (λ z. bit z v) (sym (exchanged_is c t (taken 0 n a))))
-        (parity_set n t v (λ a. differ (bit (taken 0 n a) t) (bit (taken 0 n a) c)) w (parity_add (λ a. bit (taken 0 n a) t) (λ a. bit (taken 0 n a) c) (parity_taken 0 n t w) (parity_taken 0 n c w))))
+    parity_same (λ a. bit (set (taken 0 n a) t (differ (bit (taken 0 n a) t) (bit (taken 0 n a) c))) v) (λ a. bit (exchanged c t (taken 0 n a)) v) (λ a. ap (λ z. bit z v) (sym (exchanged_is c t (taken 0 n a))))
+    (parity_set n t v (λ a. differ (bit (taken 0 n a) t) (bit (taken 0 n a) c)) w (parity_add (λ a. bit (taken 0 n a) t) (λ a. bit (taken 0 n a) c) (parity_taken 0 n t w) (parity_taken 0 n c w))))

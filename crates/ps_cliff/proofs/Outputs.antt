@@ -1,5 +1,5 @@
 -- The outputs of a path sum, read at lists of truth values and as affine functions.
-use Rattle.std.proofs.Common.{◌≡◌, ◌≢◌, ℕ, zero, suc, ◌+◌, ◌%◌, refl, ap, ap₂, sym, ◌∙◌, subst, arith, ◌<◌, ◌≤◌, ◌⊎◌, inl, inr, Bool, true, false, List, [], ◌∷◌, ◌++◌, length}
+use Rattle.std.proofs.Common.{◌≡◌, ℕ, zero, suc, ◌+◌, refl, ap, ap₂, sym, arith, ◌<◌, ◌≤◌, ◌⊎◌, inl, inr, Bool, true, false, List, [], ◌∷◌, ◌++◌}
 use Rattle.std.proofs.lemmas.Bool.{cases_lt}
 use Rattle.ps_ring.specs.Truths.{Truths, bit}
 use Rattle.ps_ring.specs.Readings.{Assignment, taken}
@@ -16,7 +16,7 @@ use Rattle.ps_cliff.proofs.Substitution.{Substitution, parity_substituted, or_le
 
 -- ---- a quadratic sum as functions
 pub turns_of : (S : PathSum) → IsQuadratic S → Turns (phase_value S.phase)
-turns_of S q = record { terms = S.phase; form = S.formed.0; quadratic = q.terms; value = λ a. refl; }
+turns_of S q = record { terms = S.phase; form = S.formed.0; quadratic = q.terms; value = λ a. refl }
 
 -- outputs that know no variable from n + m on, read at such lists
 pub outs_read : (n m : ℕ) (fs : List (List (List ℕ))) → ((v : ℕ) → n + m ≤ v → outs_occur v fs ≡ false) → (a : Assignment) → values fs a ≡ values fs (bit (taken 0 n a ++ taken n m a))
@@ -35,7 +35,7 @@ parity_taken lo (suc m) (suc v) l = parity_taken (suc lo) m v (omega arith)
 pub parity_row : (fs : List (List (List ℕ))) (lo m v : ℕ) → AllPolys fs → AreAffine fs → lo + m ≤ 512 → Parity (λ a. bit (values fs a ++ taken lo m a) v)
 unfolding values
 parity_row [] lo m v p q l = parity_taken lo m v l
-parity_row (f ∷ fs) lo m zero p q l = record { monos = f; form = p.0; linear = q.0; value = λ a. refl; }
+parity_row (f ∷ fs) lo m zero p q l = record { monos = f; form = p.0; linear = q.0; value = λ a. refl }
 parity_row (f ∷ fs) lo m (suc v) p q l = parity_row fs lo m v p.1 q.1 l
 
 -- ---- back to the lists

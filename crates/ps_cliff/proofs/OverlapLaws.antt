@@ -1,22 +1,22 @@
 -- The overlap of quadratic sums is quadratic.
-use Rattle.std.proofs.Common.{◌≡◌, ◌≢◌, ℕ, zero, suc, ◌+◌, ◌*◌, ◌%◌, refl, ap, ap₂, sym, ◌∙◌, subst, arith, ◌<◌, ◌≤◌, Bool, true, false, ◌&&◌, cond, List, [], ◌∷◌, ◌++◌, length}
+use Rattle.std.proofs.Common.{◌≡◌, ℕ, zero, suc, ◌+◌, ◌*◌, ◌%◌, refl, ap, ap₂, sym, ◌∙◌, subst, arith, ◌≤◌, Bool, true, false, ◌&&◌, cond, List, [], ◌∷◌, ◌++◌}
 use mathlib.Core.Bool.{xor}
 use Rattle.ps_ring.specs.Truths.{Truths, bit}
 use Rattle.ps_ring.specs.Readings.{Assignment, taken}
 use Rattle.ps_ring.specs.Joins.{pairing}
 use Rattle.ps_mono.specs.Truth.{times, differ}
-use Rattle.ps_bool.specs.Polys.{bool_value, occurs}
+use Rattle.ps_bool.specs.Polys.{bool_value}
 use Rattle.ps_phase.specs.Phases.{phase_value}
-use Rattle.ps_sum.specs.Outs.{values, outs_occur}
+use Rattle.ps_sum.specs.Outs.{values}
 use Rattle.ps_sum.specs.Forms.{AllPolys}
 use Rattle.ps_sum.specs.declared.sums.PathSum.{PathSum}
 use Rattle.ps_sum.proofs.Uniqueness.{phase_read, taken_length, taken_apart}
 use Rattle.ps_overlap.specs.Overlapping.{IsOverlapOf}
 use Rattle.ps_cliff.specs.Quadratics.{AreAffine, IsQuadratic}
 use Rattle.ps_cliff.specs.Laws.{OverlapsStay}
-use Rattle.ps_cliff.proofs.Values.{Turns, turns_same, turns_add, turns_scale, turns_constant, turns_both, turns_back, Parity, parity_same, parity_add, parity_variable}
-use Rattle.ps_cliff.proofs.Substitution.{Substitution, turns_substituted, parity_substituted, or_left, or_right}
-use Rattle.ps_cliff.proofs.Outputs.{turns_of, outs_read, parity_taken, parity_row, affine_as}
+use Rattle.ps_cliff.proofs.Values.{Turns, turns_same, turns_add, turns_scale, turns_constant, turns_both, turns_back, Parity, parity_add, parity_variable}
+use Rattle.ps_cliff.proofs.Substitution.{Substitution, turns_substituted, parity_substituted}
+use Rattle.ps_cliff.proofs.Outputs.{turns_of, outs_read, parity_taken}
 
 -- ---- the pairing
 paired : (w x y : Bool) → times (w && differ x y) 2147483648 ≡ cond (w && xor x y) 2147483648 0
@@ -34,8 +34,8 @@ turns_pairing [] gs s lo (suc n) l p q r h = turns_constant 0
 turns_pairing (f ∷ fs) [] s lo (suc n) l p q r h = turns_constant 0
 turns_pairing (f ∷ fs) (g ∷ gs) s lo (suc n) l p q r h = turns_add (λ a. cond (a lo && xor (bool_value f a) (bool_value g (λ v. s v a))) 2147483648 0) (λ a. pairing (taken (suc lo) n a) (values fs a) (values gs (λ v. s v a)))
     (turns_same (λ a. times (a lo && differ (bool_value f a) (bool_value g (λ v. s v a))) 2147483648) _ (λ a. ap (λ k. k % 4294967296) (paired (a lo) (bool_value f a) (bool_value g (λ v. s v a))))
-        (turns_both (λ a. a lo) (λ a. differ (bool_value f a) (bool_value g (λ v. s v a))) (parity_variable lo (omega arith))
-            (parity_add (bool_value f) (λ a. bool_value g (λ v. s v a)) (record { monos = f; form = p.0; linear = q.0; value = λ a. refl; }) (parity_substituted g s r.0 (λ v o. h v)))))
+    (turns_both (λ a. a lo) (λ a. differ (bool_value f a) (bool_value g (λ v. s v a))) (parity_variable lo (omega arith))
+    (parity_add (bool_value f) (λ a. bool_value g (λ v. s v a)) (record { monos = f; form = p.0; linear = q.0; value = λ a. refl }) (parity_substituted g s r.0 (λ v o. h v)))))
     (turns_pairing fs gs s (suc lo) n (omega arith) p.1 q.1 r.1 h)
 
 -- ---- two rows of variables
@@ -65,8 +65,8 @@ module _ {S1 S2 S : PathSum} (i : IsOverlapOf S1 S2 S) where
   unfolding moved
   overlap_phase a =
       ap₂ (λ (p r : ℕ). (p + r) % 4294967296)
-          (phase_read S.n S.m S.phase S.phase_below a ∙ ap₂ (λ (n m : ℕ). phase_value S.phase (bit (taken 0 n a ++ taken n m a))) i.qubits_are i.overlaps.m_is ∙ ap (λ (t : Truths). phase_value S.phase (bit (taken 0 S1.n a ++ t))) (rows_are S1.n S1.m S2.m a))
-          (phase_read S1.n S1.m S1.phase S1.phase_below a)
+      (phase_read S.n S.m S.phase S.phase_below a ∙ ap₂ (λ (n m : ℕ). phase_value S.phase (bit (taken 0 n a ++ taken n m a))) i.qubits_are i.overlaps.m_is ∙ ap (λ (t : Truths). phase_value S.phase (bit (taken 0 S1.n a ++ t))) (rows_are S1.n S1.m S2.m a))
+      (phase_read S1.n S1.m S1.phase S1.phase_below a)
       ∙ i.overlaps.phase_is (taken 0 S1.n a) (taken S1.n S1.m a) (taken (S1.n + S1.m) S2.m a) (taken (S1.n + S1.m + S2.m) S1.n a) (taken_length 0 S1.n a) (taken_length S1.n S1.m a) (taken_length (S1.n + S1.m) S2.m a) (taken_length (S1.n + S1.m + S2.m) S1.n a)
       ∙ ap (λ (t : Truths). (phase_value S2.phase (bit (taken 0 S1.n a ++ taken (S1.n + S1.m) S2.m a)) + pairing (taken (S1.n + S1.m + S2.m) S1.n a) t (values S2.outs (bit (taken 0 S1.n a ++ taken (S1.n + S1.m) S2.m a)))) % 4294967296) (sym (outs_read S1.n S1.m S1.outs S1.outs_below a))
 
@@ -81,10 +81,10 @@ module _ {S1 S2 S : PathSum} (i : IsOverlapOf S1 S2 S) where
   overlap_turns p q = turns_same (λ a. phase_value S2.phase (λ v. moved S1 S2 v a) + pairing (taken (S1.n + S1.m + S2.m) S1.n a) (values S1.outs a) (values S2.outs (λ v. moved S1 S2 v a)) + 4294967295 * phase_value S1.phase a) (phase_value S.phase)
       (λ a. less (phase_value S.phase a) (phase_value S1.phase a) _ (overlap_phase a))
       (turns_add _ (λ a. 4294967295 * phase_value S1.phase a)
-          (turns_add (λ a. phase_value S2.phase (λ v. moved S1 S2 v a)) (λ a. pairing (taken (S1.n + S1.m + S2.m) S1.n a) (values S1.outs a) (values S2.outs (λ v. moved S1 S2 v a)))
-              (turns_substituted S2.phase (moved S1 S2) q.terms (λ v o. moved_affine v))
-              (turns_pairing S1.outs S2.outs (moved S1 S2) (S1.n + S1.m + S2.m) S1.n (let w = all_named in omega arith) S1.formed.1 p.outputs q.outputs moved_affine))
-          (turns_scale 4294967295 (phase_value S1.phase) (turns_of S1 p)))
+      (turns_add (λ a. phase_value S2.phase (λ v. moved S1 S2 v a)) (λ a. pairing (taken (S1.n + S1.m + S2.m) S1.n a) (values S1.outs a) (values S2.outs (λ v. moved S1 S2 v a)))
+      (turns_substituted S2.phase (moved S1 S2) q.terms (λ v o. moved_affine v))
+      (turns_pairing S1.outs S2.outs (moved S1 S2) (S1.n + S1.m + S2.m) S1.n (let w = all_named in omega arith) S1.formed.1 p.outputs q.outputs moved_affine))
+      (turns_scale 4294967295 (phase_value S1.phase) (turns_of S1 p)))
 
   no_outputs : AreAffine S.outs
   no_outputs = subst AreAffine (sym i.no_outs) tt

@@ -1,19 +1,18 @@
 -- A step from a quadratic sum gives a quadratic one.
-use Rattle.std.proofs.Common.{◌≡◌, ◌≢◌, ℕ, zero, suc, ◌+◌, ◌*◌, ◌-◌, ◌%◌, refl, ap, ap₂, sym, ◌∙◌, subst, arith, ◌<◌, ◌≤◌, ◌⊎◌, inl, inr, Bool, true, false, not, ◌&&◌, ◌||◌, cond, nat_eq, nat_lt, List, [], ◌∷◌, ◌++◌, length}
+use Rattle.std.proofs.Common.{◌≡◌, ℕ, ◌+◌, ◌*◌, ◌%◌, refl, ap, ap₂, sym, ◌∙◌, arith, ◌<◌, ◌≤◌, ◌⊎◌, inl, inr, Bool, true, false, not, ◌&&◌, ◌||◌, cond, nat_eq, List, [], ◌∷◌, length}
 use Rattle.std.proofs.lemmas.Bool.Decides.{nat_tests}
 use mathlib.Core.Path.{fun_ext}
 use Rattle.std.specs.Cmp.Lexicographic.{pointwise}
 use Rattle.ps_ring.specs.Truths.{Truths, bit}
 use Rattle.ps_ring.specs.Readings.{Assignment, opened, closed_up}
 use Rattle.ps_mono.specs.Sets.{holds, stands}
-use Rattle.ps_mono.specs.Truth.{times, differ, with_value}
+use Rattle.ps_mono.specs.Truth.{times, with_value}
 use Rattle.ps_bool.specs.Polys.{bool_value}
 use Rattle.ps_phase.specs.declared.terms.Term.{Term}
 use Rattle.ps_phase.specs.Phases.{phase_value, phase_occurs, coefficient}
 use Rattle.ps_sum.specs.Names.{closed}
-use Rattle.ps_sum.specs.Outs.{values, outs_occur}
+use Rattle.ps_sum.specs.Outs.{values}
 use Rattle.ps_sum.specs.declared.sums.PathSum.{PathSum}
-use Rattle.ps_rules.specs.declared.steps.Step.{Step}
 use Rattle.ps_rules.specs.declared.steps.Step.TheVariants.{Elim, Hh, Omega}
 use Rattle.ps_rules.specs.Terms.{others, both}
 use Rattle.ps_rules.specs.Rules.{Applied, Becomes, rest_value}
@@ -152,11 +151,11 @@ omega_stays : (S T : PathSum) (y0 : ℕ) → IsQuadratic S → Applied S (Omega 
 omega_stays S T y0 q h = quadratic_as T _ _
     (reads T (closed_up v) (back v) _ _ (λ b u. ap b (closed_opened v u)) h.1)
     (turns_add (λ b. phase_value S.phase (with_value (back v b) v false) + 536870912) (λ b. times (rest_value S (Omega y0) (back v b)) 3221225472)
-        (turns_add (λ b. phase_value S.phase (with_value (back v b) v false)) (λ b. 536870912)
-            (turns_substituted S.phase (λ u b. with_value (back v b) v false u) q.terms (λ u o. parity_with_value v u (closed v) (λ b. false) (phase_inside S u o) (closed_below v u) parity_none))
-            (turns_constant 536870912))
-        (turns_same (λ b. 3 * times (rest_value S (Omega y0) (back v b)) 1073741824) (λ b. times (rest_value S (Omega y0) (back v b)) 3221225472) (λ b. ap (λ k. k % 4294967296) (scaled 3 (rest_value S (Omega y0) (back v b)) 3221225472 refl))
-            (turns_scale 3 (λ b. times (rest_value S (Omega y0) (back v b)) 1073741824) (turns_quarter (λ b. rest_value S (Omega y0) (back v b)) rest))))
+    (turns_add (λ b. phase_value S.phase (with_value (back v b) v false)) (λ b. 536870912)
+    (turns_substituted S.phase (λ u b. with_value (back v b) v false u) q.terms (λ u o. parity_with_value v u (closed v) (λ b. false) (phase_inside S u o) (closed_below v u) parity_none))
+    (turns_constant 536870912))
+    (turns_same (λ b. 3 * times (rest_value S (Omega y0) (back v b)) 1073741824) (λ b. times (rest_value S (Omega y0) (back v b)) 3221225472) (λ b. ap (λ k. k % 4294967296) (scaled 3 (rest_value S (Omega y0) (back v b)) 3221225472 refl))
+    (turns_scale 3 (λ b. times (rest_value S (Omega y0) (back v b)) 1073741824) (turns_quarter (λ b. rest_value S (Omega y0) (back v b)) rest))))
     (parity_values S.outs (λ u b. b (closed v u)) q.outputs (λ u o. parity_variable (closed v u) (let l = outs_inside S u o in let d = closed_below v u in omega arith)))
   where
     v : ℕ
@@ -170,9 +169,9 @@ hh_stays : (S T : PathSum) (y0 y1 : ℕ) → IsQuadratic S → Applied S (Hh y0 
 hh_stays S T y0 y1 q h = quadratic_as T _ _
     (reads T (λ a. closed_up (closed v w) (closed_up v a)) old _ _ (λ b u. ap (λ k. b (closed (closed v w) k)) (closed_opened v (opened (closed v w) u)) ∙ ap b (closed_opened (closed v w) u)) h.1)
     (turns_substituted S.phase (λ u b. with_value (with_value (old b) w (rest_value S (Hh y0 y1) (old b))) v false u) q.terms
-        (λ u o. parity_two_values w v u name (λ b. rest_value S (Hh y0 y1) (old b)) (phase_inside S u o) (name_below u) rest))
+    (λ u o. parity_two_values w v u name (λ b. rest_value S (Hh y0 y1) (old b)) (phase_inside S u o) (name_below u) rest))
     (parity_values S.outs (λ u b. with_value (old b) w (rest_value S (Hh y0 y1) (old b)) u) q.outputs
-        (λ u o. parity_with_value w u name (λ b. rest_value S (Hh y0 y1) (old b)) (outs_inside S u o) (name_below u) rest))
+    (λ u o. parity_with_value w u name (λ b. rest_value S (Hh y0 y1) (old b)) (outs_inside S u o) (name_below u) rest))
   where
     v : ℕ
     v = S.n + y0

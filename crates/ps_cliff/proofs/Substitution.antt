@@ -1,9 +1,9 @@
 -- Affine functions in place of the variables of a quadratic phase, or of affine outputs.
-use Rattle.std.proofs.Common.{◌≡◌, ◌≢◌, ℕ, zero, suc, ◌+◌, ◌*◌, ◌/◌, ◌%◌, refl, ap, ap₂, sym, ◌∙◌, subst, arith, ◌<◌, ◌≤◌, Bool, true, false, ◌&&◌, ◌||◌, nat_eq, List, [], ◌∷◌, length}
+use Rattle.std.proofs.Common.{◌≡◌, ℕ, ◌*◌, ◌/◌, ◌%◌, refl, ap, ap₂, sym, ◌∙◌, subst, arith, Bool, true, false, ◌&&◌, ◌||◌, nat_eq, List, [], ◌∷◌, length}
 use Rattle.ps_ring.specs.Readings.{Assignment}
-use Rattle.ps_mono.specs.Sets.{holds, stands, IsVarSet}
+use Rattle.ps_mono.specs.Sets.{holds, stands}
 use Rattle.ps_mono.specs.Lists.{nat_eq_same}
-use Rattle.ps_mono.specs.Truth.{times, differ}
+use Rattle.ps_mono.specs.Truth.{times}
 use Rattle.ps_bool.specs.Polys.{bool_value, occurs, Each}
 use Rattle.ps_phase.specs.declared.terms.Term.{Term}
 use Rattle.ps_phase.specs.Phases.{phase_value, phase_occurs}

@@ -1,5 +1,5 @@
 -- Functions of assignments that a quadratic phase, or an affine polynomial, gives.
-use Rattle.std.proofs.Common.{◌≡◌, ◌≢◌, ℕ, zero, suc, ◌+◌, ◌*◌, ◌%◌, refl, ap, ap₂, sym, ◌∙◌, subst, arith, ◌<◌, ◌≤◌, Bool, true, false, ◌&&◌, cond, nat_eq, List, [], ◌∷◌, length, ◌⊎◌, inl, inr}
+use Rattle.std.proofs.Common.{◌≡◌, ◌≢◌, ℕ, zero, suc, ◌+◌, ◌*◌, ◌%◌, refl, ap, ap₂, sym, ◌∙◌, subst, arith, ◌<◌, ◌≤◌, Bool, true, false, ◌&&◌, List, [], ◌∷◌, ◌⊎◌, inl, inr}
 use Rattle.std.proofs.lemmas.Bool.{cases_lt, cases_eq}
 use Rattle.ps_ring.specs.Readings.{Assignment}
 use Rattle.ps_mono.specs.Sets.{holds, IsVarSet}
@@ -35,7 +35,7 @@ pub record Parity (f : Assignment → Bool) : Type 0 where
 
 -- ---- sums
 pub turns_same : (F G : Assignment → ℕ) → ((a : Assignment) → F a % 4294967296 ≡ G a % 4294967296) → Turns F → Turns G
-turns_same F G e t = record { terms = t.terms; form = t.form; quadratic = t.quadratic; value = λ a. t.value a ∙ e a; }
+turns_same F G e t = record { terms = t.terms; form = t.form; quadratic = t.quadratic; value = λ a. t.value a ∙ e a }
 
 pub turns_add : (F G : Assignment → ℕ) → Turns F → Turns G → Turns (λ a. F a + G a)
 turns_add F G t u = record {
@@ -50,7 +50,7 @@ unfolding phase_value
 no_term a = refl
 
 turns_none : Turns (λ a. 0)
-turns_none = record { terms = []; form = tt; quadratic = tt; value = no_term; }
+turns_none = record { terms = []; form = tt; quadratic = tt; value = no_term }
 
 suc_times : (n x : ℕ) → suc n * x ≡ x + n * x
 suc_times n x = grind arith
@@ -60,7 +60,7 @@ turns_scale zero F t = turns_same (λ a. 0) (λ a. 0 * F a) (λ a. omega arith) 
 turns_scale (suc n) F t = turns_same (λ a. F a + n * F a) (λ a. suc n * F a) (λ a. ap (λ k. k % 4294967296) (sym (suc_times n (F a)))) (turns_add F (λ a. n * F a) t (turns_scale n F t))
 
 pub parity_same : (f g : Assignment → Bool) → ((a : Assignment) → f a ≡ g a) → Parity f → Parity g
-parity_same f g e p = record { monos = p.monos; form = p.form; linear = p.linear; value = λ a. p.value a ∙ e a; }
+parity_same f g e p = record { monos = p.monos; form = p.form; linear = p.linear; value = λ a. p.value a ∙ e a }
 
 pub parity_add : (f g : Assignment → Bool) → Parity f → Parity g → Parity (λ a. differ (f a) (g a))
 parity_add f g p q = record {
@@ -91,22 +91,22 @@ turns_put m p s q = record {
 
 pub turns_constant : (p : ℕ) → Turns (λ a. p)
 unfolding holds times
-turns_constant p = turns_same (λ a. times (holds [] a) p) (λ a. p) (λ a. refl) (turns_put [] p (climbing_set [] tt tt) (λ d. record { degree = omega arith; quarters = λ o. absurd (omega arith); halves = λ o. absurd (omega arith); }))
+turns_constant p = turns_same (λ a. times (holds [] a) p) (λ a. p) (λ a. refl) (turns_put [] p (climbing_set [] tt tt) (λ d. record { degree = omega arith; quarters = λ o. absurd (omega arith); halves = λ o. absurd (omega arith) }))
 
 -- one variable by a quarter
 turns_one : (v : ℕ) → v < 512 → Turns (λ a. times (a v && true) 1073741824)
 unfolding holds
-turns_one v l = turns_put (v ∷ []) 1073741824 (climbing_set (v ∷ []) (tt, tt) (l, tt)) (λ d. record { degree = omega arith; quarters = λ o. refl; halves = λ o. absurd (omega arith); })
+turns_one v l = turns_put (v ∷ []) 1073741824 (climbing_set (v ∷ []) (tt, tt) (l, tt)) (λ d. record { degree = omega arith; quarters = λ o. refl; halves = λ o. absurd (omega arith) })
 
 -- two variables by half a turn
 turns_two : (u v : ℕ) → u < v → v < 512 → Turns (λ a. times (a u && (a v && true)) 2147483648)
 unfolding holds
-turns_two u v l b = turns_put (u ∷ v ∷ []) 2147483648 (climbing_set (u ∷ v ∷ []) ((l, tt), (tt, tt)) (omega arith, (b, tt))) (λ d. record { degree = omega arith; quarters = λ o. absurd (omega arith); halves = λ o. refl; })
+turns_two u v l b = turns_put (u ∷ v ∷ []) 2147483648 (climbing_set (u ∷ v ∷ []) ((l, tt), (tt, tt)) (omega arith, (b, tt))) (λ d. record { degree = omega arith; quarters = λ o. absurd (omega arith); halves = λ o. refl })
 
 -- one variable by half a turn
 turns_half : (v : ℕ) → v < 512 → Turns (λ a. times (a v && true) 2147483648)
 unfolding holds
-turns_half v l = turns_put (v ∷ []) 2147483648 (climbing_set (v ∷ []) (tt, tt) (l, tt)) (λ d. record { degree = omega arith; quarters = λ o. refl; halves = λ o. absurd (omega arith); })
+turns_half v l = turns_put (v ∷ []) 2147483648 (climbing_set (v ∷ []) (tt, tt) (l, tt)) (λ d. record { degree = omega arith; quarters = λ o. refl; halves = λ o. absurd (omega arith) })
 
 bool_one : (m : List ℕ) (a : Assignment) → bool_value (m ∷ []) a ≡ holds m a
 unfolding bool_value differ
@@ -224,8 +224,8 @@ quarter_polynomial [] b l = turns_same (λ a. 0) (λ a. 0) (λ a. refl) (turns_c
 quarter_polynomial (m ∷ f) b l = turns_same (λ a. times (holds m a) 1073741824 + times (bool_value f a) 1073741824 + times (holds m a && bool_value f a) 2147483648) _
     (λ a. split_quarter (holds m a) (bool_value f a))
     (turns_add (λ a. times (holds m a) 1073741824 + times (bool_value f a) 1073741824) (λ a. times (holds m a && bool_value f a) 2147483648)
-        (turns_add (λ a. times (holds m a) 1073741824) (λ a. times (bool_value f a) 1073741824) (quarter_mono m (short m b.0 l.0)) (quarter_polynomial f b.1 l.1))
-        (mono_polynomial m f (short m b.0 l.0) b.1 l.1))
+    (turns_add (λ a. times (holds m a) 1073741824) (λ a. times (bool_value f a) 1073741824) (quarter_mono m (short m b.0 l.0)) (quarter_polynomial f b.1 l.1))
+    (mono_polynomial m f (short m b.0 l.0) b.1 l.1))
 
 -- a quarter where it is true
 pub turns_quarter : (f : Assignment → Bool) → Parity f → Turns (λ a. times (f a) 1073741824)
@@ -234,10 +234,10 @@ turns_quarter f p = turns_where (bool_value p.monos) f 1073741824 p.value (quart
 -- ---- parities
 pub parity_none : Parity (λ a. false)
 unfolding bool_value
-parity_none = record { monos = []; form = record { in_order = tt; sets = tt; }; linear = tt; value = λ a. refl; }
+parity_none = record { monos = []; form = record { in_order = tt; sets = tt }; linear = tt; value = λ a. refl }
 
 pub parity_mono : (m : List ℕ) → IsVarSet m → IsLinear m → Parity (holds m)
-parity_mono m s l = record { monos = m ∷ []; form = record { in_order = (tt, tt); sets = (s, tt); }; linear = (l, tt); value = bool_one m; }
+parity_mono m s l = record { monos = m ∷ []; form = record { in_order = (tt, tt); sets = (s, tt) }; linear = (l, tt); value = bool_one m }
 
 pub parity_variable : (v : ℕ) → v < 512 → Parity (λ a. a v)
 parity_variable v l = parity_same (holds (v ∷ [])) (λ a. a v) (λ a. sym (bool_one (v ∷ []) a) ∙ bool_value-var v a) (parity_mono (v ∷ []) (climbing_set (v ∷ []) (tt, tt) (l, tt)) (omega arith))

@@ -1,5 +1,5 @@
 -- What is made of quadratic sums is quadratic.
-use Rattle.std.specs.Prelude.{ℕ, ◌≡◌}
+use Rattle.std.specs.Prelude.{ℕ}
 use Rattle.ps_prim.specs.declared.prims.Primitive.{Primitive as Prim}
 use Rattle.ps_sum.specs.declared.sums.PathSum.{PathSum}
 use Rattle.ps_join.specs.Joining.{IsLeafOf, IsIdentityOf, IsJoinOf}

@@ -1,2 +1,3 @@
 pub mod Quadratics
 pub mod Laws
+pub mod Circuits
