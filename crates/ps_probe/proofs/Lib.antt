@@ -1,3 +1,3 @@
 mod Counting
-
-
+mod Tables
+mod Scales
