@@ -1,3 +1,4 @@
 mod Counting
 mod Tables
 mod Scales
+mod Marks

@@ -14,6 +14,11 @@ use Rattle.ps_ring.proofs.Ones.{one_first}
 use Rattle.ps_ring.proofs.Roots.{root2_number, root2_even, root2_odd, same_path}
 use Rattle.ps_ring.proofs.StepLaws.{signed_number}
 use Rattle.ps_prim.specs.Overlaps.{IsOne}
+use Rattle.std.proofs.Common.{to_z, of_z, w32}
+use Rattle.std.specs.Int.Signed.{lt_z}
+use lib.Dec.{ltb}
+use Rattle.ps_sum.specs.declared.sums.PathSum.{PathSum}
+use Rattle.ps_overlap.proofs.Made.{kept_scale}
 use Rattle.ps_probe.specs.Tallies.{tallied}
 
 -- ---- a scale below 0
@@ -127,3 +132,34 @@ tally_tells S x k ps qs b e q s t = (
   λ h. (one_counts S x k e).0 (λ j. s j ∙ ap (λ (r : List ℕ). tallied r j) (sym q) ∙ t.0 h j),
   λ h. t.1 (λ j. ap (λ (r : List ℕ). tallied r j) q ∙ sym (s j) ∙ (one_counts S x k e).1 h j),
 )
+
+-- ---- the tests of the scale
+kept : (S : PathSum) → to_z w32 (of_z w32 S.k) ≡ S.k
+kept S = kept_scale S.k S.k refl S.scaled
+
+is_low : (k : ℤ) → lt_z k (pos 0) ≡ true → k ≤ℤ negsuc 0
+is_low (pos a) h = absurd (let w : ltb a 0 ≡ true = h in grind (arith, nat_tests, w))
+is_low (negsuc a) h = omega (arith, ints)
+
+is_high : (k : ℤ) → lt_z (pos 33) k ≡ true → pos 34 ≤ℤ k
+is_high (pos b) h = let w : 34 ≤ b = (let u : ltb 33 b ≡ true = h in grind (arith, nat_tests, u)) in omega (arith, ints, w)
+is_high (negsuc b) h = absurd (clash h)
+  where
+    clash : false ≡ true → ⊥
+    clash k = cc
+
+is_inside : (k : ℤ) → lt_z k (pos 0) ≡ false → k ≡ pos (nat_abs k)
+is_inside (pos a) h = refl
+is_inside (negsuc a) h = absurd (clash h)
+  where
+    clash : true ≡ false → ⊥
+    clash k = cc
+
+pub scale_low : (S : PathSum) → lt_z (to_z w32 (of_z w32 S.k)) (pos 0) ≡ true → S.k ≤ℤ negsuc 0
+scale_low S h = is_low S.k (ap (λ k. lt_z k (pos 0)) (sym (kept S)) ∙ h)
+
+pub scale_high : (S : PathSum) → lt_z (pos 33) (to_z w32 (of_z w32 S.k)) ≡ true → pos 34 ≤ℤ S.k
+scale_high S h = is_high S.k (ap (λ k. lt_z (pos 33) k) (sym (kept S)) ∙ h)
+
+pub scale_inside : (S : PathSum) → lt_z (to_z w32 (of_z w32 S.k)) (pos 0) ≡ false → S.k ≡ pos (nat_abs (to_z w32 (of_z w32 S.k)))
+scale_inside S h = is_inside S.k (ap (λ k. lt_z k (pos 0)) (sym (kept S)) ∙ h) ∙ ap (λ k. pos (nat_abs k)) (sym (kept S))
