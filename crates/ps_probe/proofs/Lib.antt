@@ -2,3 +2,4 @@ mod Counting
 mod Tables
 mod Scales
 mod Marks
+mod Restricted

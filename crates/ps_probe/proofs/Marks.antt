@@ -3,7 +3,7 @@ use Rattle.std.proofs.Common.{◌≡◌, ◌≢◌, ℕ, zero, suc, ◌+◌, ◌
 use Rattle.std.specs.Prelude.{nat_lt}
 use Rattle.std.specs.Int.{bit_at}
 use Rattle.std.proofs.lemmas.Bool.Decides.{nat_tests}
-use Rattle.std.proofs.lemmas.Nat.Bits.{bit_at_set_same, bit_at_set_other, bit_at-zero}
+use Rattle.std.proofs.lemmas.Nat.Bits.{bit_at_set_same, bit_at_set_other, bit_at-zero, shr_and_one}
 use Rattle.std.proofs.lemmas.List.{get_or_past}
 use Rattle.ps_mono.specs.Sets.{is_set}
 use Rattle.ps_mono.specs.Lists.{nat_eq_true, nat_eq_same, nat_eq_other}
@@ -33,11 +33,14 @@ pub record Marked (w : List ℕ) (k fixed ones : ℕ) : Type 0 where
   pub fixed_is : (i : ℕ) → is_set fixed i ≡ (nat_lt i k && not (nat_eq (get_or w i 45) 45))
   pub ones_is : (i : ℕ) → is_set ones i ≡ (nat_lt i k && nat_eq (get_or w i 45) 49)
 
+below_none : (i : ℕ) → nat_lt i 0 ≡ false
+below_none i = grind (arith, nat_tests)
+
 pub marked_start : (w : List ℕ) → Marked w 0 0 0
 marked_start w = record {
   marks = λ i h. absurd (omega (arith, h));
-  fixed_is = λ i. set_none i;
-  ones_is = λ i. set_none i;
+  fixed_is = λ i. set_none i ∙ sym (ap (λ b. b && not (nat_eq (get_or w i 45) 45)) (below_none i));
+  ones_is = λ i. set_none i ∙ sym (ap (λ b. b && nat_eq (get_or w i 45) 49) (below_none i));
 }
 
 -- the next character, whether it is no `-`, and whether it is `1`
@@ -113,3 +116,27 @@ no_mark w k c h e a b d v = by (v.marks k h)
     by (inl q) = b (e ∙ q)
     by (inr (inl q)) = a (e ∙ q)
     by (inr (inr q)) = d (e ∙ q)
+
+-- ---- the tests
+pub fixed_at : (p : Pattern) (i : ℕ) → i < p.len → nat_eq (bit_and (p.fixed / 2 ^ i) 1) 1 ≡ is_fixed p i
+unfolding is_set
+fixed_at p i h =
+    let l : nat_lt i p.len ≡ true = grind (arith, nat_tests, h) in
+    ap (λ b. nat_eq b 1) (shr_and_one p.fixed i) ∙ sym (ap (λ b. b && nat_eq (bit_at p.fixed i) 1) l)
+
+pub free_start : (p : Pattern) → (0 ≡ free_count p 0) × (0 ≤ 0)
+unfolding free_count
+free_start p = (refl, omega arith)
+
+pub free_next : (p : Pattern) (i f f' : ℕ) (b : Bool) → b ≡ is_fixed p i → ((b ≡ false) × (f' ≡ f + 1)) ⊎ ((b ≡ true) × (f' ≡ f)) → (f ≡ free_count p i) × (f ≤ i) → (f' ≡ free_count p (i + 1)) × (f' ≤ i + 1)
+unfolding free_count
+free_next p i f f' b e (inl x) h =
+    let s : i + 1 ≡ suc i = omega arith in
+    let g : free_count p (suc i) ≡ free_count p i + 1 = ap (λ c. free_count p i + cond c 0 1) (sym e ∙ x.0) in
+    let z = x.1 in let y = h.0 in
+    (omega (arith, z, y, g) ∙ ap (free_count p) (sym s), omega (arith, h.1, z))
+free_next p i f f' b e (inr x) h =
+    let s : i + 1 ≡ suc i = omega arith in
+    let g : free_count p (suc i) ≡ free_count p i + 0 = ap (λ c. free_count p i + cond c 0 1) (sym e ∙ x.0) in
+    let z = x.1 in let y = h.0 in
+    (omega (arith, z, y, g) ∙ ap (free_count p) (sym s), omega (arith, h.1, z))

@@ -18,7 +18,7 @@ use super::pattern::Pattern;
 use super::reducing::reduce;
 use super::restricting::restrict;
 use super::searching::first_other;
-use ps_mono::Bits;
+use ps_mono::{Bits, Mono};
 use ps_overlap::{first_point, least_point, overlap, vanishing};
 use ps_reach::{Body, Record};
 use ps_sum::{JoinFault, PathSum};
@@ -33,12 +33,12 @@ fn filled(at: &Bits, pattern: &Pattern) -> Bits
     requires { pattern.now.len ≤ 64 }
     ensures { IsFilled pattern.now at.now result }
 {
+    // That the bits are in their one form.
+    let _known = Mono::of_bits(at);
     let mut bits = *at;
     for i in 0..pattern.len {
         if pattern.is_fixed(i) {
             bits.set(i as u16, pattern.is_one(i));
-        } else {
-            bits.set(i as u16, at.get(i as u16));
         }
     }
     bits

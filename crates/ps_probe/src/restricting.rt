@@ -11,6 +11,14 @@ use ps_phase::{PhasePoly, Term};
 use ps_sum::{Outputs, PathSum};
 use std::alloc::{AllocError, Global};
 
+// Whether input `i` stands in the monomial and is fixed.
+fn has_fixed(mono: &Mono, pattern: &Pattern, i: u32) -> bool
+    requires { i < 64 }
+    ensures { result ≡ (stands i mono.now && is_fixed pattern.now i) }
+{
+    mono.contains(i as u16) && pattern.is_fixed(i)
+}
+
 // The monomial without the inputs that are fixed to 1; none where one of its inputs is fixed to 0.
 fn fixed_mono(mono: &Mono, pattern: &Pattern) -> Option<Mono>
     requires { pattern.now.len ≤ 64 }
@@ -18,7 +26,7 @@ fn fixed_mono(mono: &Mono, pattern: &Pattern) -> Option<Mono>
 {
     let mut out = *mono;
     for i in 0..pattern.len {
-        if mono.contains(i as u16) && pattern.is_fixed(i) {
+        if has_fixed(mono, pattern, i) {
             if !pattern.is_one(i) {
                 return None;
             }

@@ -5,7 +5,7 @@ ghost use Rattle.ps_probe.specs.Searching.{Searched};
 
 use super::pattern::Pattern;
 use super::tallying::tally;
-use ps_mono::Bits;
+use ps_mono::{Bits, Mono};
 use ps_sum::PathSum;
 use std::alloc::{AllocError, Global};
 
@@ -26,6 +26,8 @@ pub fn first_other(
 {
     if from == sum.n {
         let is_one = tally(alloc, sum, &at)?;
+        // That the bits are in their one form.
+        let _known = Mono::of_bits(&at);
         return Ok(if is_one { None } else { Some(at) });
     }
     let mut next = at;
