@@ -55,7 +55,8 @@ impl Pattern {
     /// How many inputs are free.
     pub fn free(&self) -> u32
         requires { self.now.len ≤ 64 }
-        ensures { result ≡ free_count self.now self.now.len }
+        ensures value { result ≡ free_count self.now self.now.len }
+        ensures few { result ≤ self.now.len }
     {
         let mut free = 0;
         for i in 0..self.len {
