@@ -3,3 +3,5 @@ mod Tables
 mod Scales
 mod Marks
 mod Restricted
+mod Searches
+mod Givings

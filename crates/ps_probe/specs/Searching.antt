@@ -7,7 +7,7 @@ use Rattle.ps_sum.specs.declared.sums.PathSum.{PathSum}
 use Rattle.ps_sum.specs.Sums.{path_values}
 use Rattle.ps_overlap.specs.Overlapping.{point}
 use Rattle.ps_probe.specs.declared.pattern.Pattern.{Pattern}
-use Rattle.ps_probe.specs.Patterns.{Matches}
+use Rattle.ps_probe.specs.Patterns.{is_fixed, is_one, Matches}
 
 -- x comes before z, input 0 being the highest digit
 pub record Before (x z : Truths) : Type 0 where
@@ -33,7 +33,12 @@ pub record IsFirstOther (p : Pattern) (S : PathSum) (Such : Truths → Type 0) (
   pub below : (v : ℕ) → S.n ≤ v → stands v at ≡ false
   pub form : IsVarSet at
 
--- what is found among the inputs that are as the set before input `from`
+-- no input from the sum's number of them on is in the set, and before input `from` the fixed ones are as the pattern says
+pub record IsBegun (p : Pattern) (S : PathSum) (at : List ℕ) (from : ℕ) : Type 0 where
+  pub below : (v : ℕ) → S.n ≤ v → stands v at ≡ false
+  pub fixed : (i : ℕ) → i < from → is_fixed p i ≡ true → stands i at ≡ is_one p i
+
+-- what is found among the inputs that are as such a set before input `from`
 abbrev pub Searched : Pattern → PathSum → List ℕ → ℕ → Option (List ℕ) → Type 0
 Searched p S at from None = AllOne p S (Extends at from)
-Searched p S at from (Some found) = ((v : ℕ) → S.n ≤ v → stands v at ≡ false) → IsFirstOther p S (Extends at from) found
+Searched p S at from (Some found) = IsFirstOther p S (Extends at from) found

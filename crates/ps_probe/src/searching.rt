@@ -1,7 +1,7 @@
 //! The first input at which a closed sum is not 1.
 
 ghost use Rattle.std.specs.Prelude.{◌≡◌, ◌≤◌, [], IfOk};
-ghost use Rattle.ps_probe.specs.Searching.{Searched};
+ghost use Rattle.ps_probe.specs.Searching.{IsBegun, Searched};
 
 use super::pattern::Pattern;
 use super::tallying::tally;
@@ -22,6 +22,7 @@ pub fn first_other(
     requires closed { sum.now.outs ≡ [] }
     requires few { sum.now.m ≤ 16 }
     requires place { from ≤ sum.now.n }
+    requires begun { IsBegun pattern.now sum.now at from }
     ensures { IfOk result (Searched pattern.now sum.now at from) }
 {
     if from == sum.n {
