@@ -5,3 +5,4 @@ mod Marks
 mod Restricted
 mod Searches
 mod Givings
+mod Shown

@@ -149,7 +149,7 @@ both_none p S low high at from Such s t a b x l m e = by (bit x from) refl
     by true q = b x l m (ext_in high at from true x t e.0 q, e.1)
 
 pub free_searched : (p : Pattern) (S : PathSum) (low high at : List ℕ) (from : ℕ) (o : Option (List ℕ)) → ((v : ℕ) → stands v low ≡ cond (nat_eq v from) false (stands v at)) → ((v : ℕ) → stands v high ≡ cond (nat_eq v from) true (stands v low)) → AllOne p S (Extends low (from + 1)) → Searched p S high (from + 1) o → Searched p S at from o
-free_searched p S low high at from None s t a b x l m e = both_none p S low high at from (λ y. Unit {0}) s (set_twice low high at from s t) a (λ y k n w. b y k n w.0) x l m (e, tt)
+free_searched p S low high at from None s t a b = λ x l m e. both_none p S low high at from (λ y. Unit {0}) s (set_twice low high at from s t) a (λ y k n w. b y k n w.0) x l m (e, tt)
 free_searched p S low high at from (Some found) s t a b = record {
   matches = b.matches;
   such = ext_out high at from true (point S.n found) (set_twice low high at from s t) b.such;
