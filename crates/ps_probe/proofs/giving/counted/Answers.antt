@@ -15,3 +15,6 @@ returns-in-None c = counted_one c.args.pattern.now c.args.sum c.free.result c.ze
 
 pub returns : goal.returns
 returns c = counted_other c.args.pattern.now c.args.sum c.free.result c.zero.result c.in-Some.at c.free.ensures.value c.requires.some c.requires.none c.if-free-sum-gt-MOST.false (subst (Searched c.args.pattern.now c.args.sum c.zero.result 0) c.in-Some.is c.in_ok-first_other.ensures)
+
+pub first_other-requires-clause-begun : goal.first_other-requires-clause-begun
+first_other-requires-clause-begun c = begun_start c.args.pattern.now c.args.sum c.zero.result c.zero.ensures
