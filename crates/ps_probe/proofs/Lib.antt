@@ -1,0 +1,8 @@
+mod Counting
+mod Tables
+mod Scales
+mod Marks
+mod Restricted
+mod Searches
+mod Givings
+mod Shown

@@ -1,0 +1,24 @@
+//! Whether two circuits are one linear map where some of their inputs are fixed, and what small sums come to
+//! by counting.
+#![tactic(auto)]
+
+mod balancing;
+mod evidences;
+mod ending;
+pub mod finding;
+pub mod giving;
+pub mod pattern;
+mod phases;
+mod reducing;
+pub mod restricting;
+mod searching;
+mod spelling;
+pub mod tallying;
+
+pub use giving::given;
+pub use pattern::Pattern;
+pub use restricting::restrict;
+pub use tallying::tally;
+
+#[cfg(test)]
+mod tests;
