@@ -1,5 +1,5 @@
 //! The texts of generated blocks.
-ghost use Rattle.std.specs.Prelude.{◌≡◌, ◌≤◌, IfOk, length, map};
+ghost use Rattle.std.specs.Prelude.{◌≡◌, ◌≤◌, ◌*◌, IfOk, length, map, vec_len};
 ghost use Rattle.std.specs.List.{flat_map};
 ghost use Rattle.ps_gen.specs.Texts.{line, mirrored, circuit_text, mirror_text};
 
@@ -34,15 +34,16 @@ fn mirrored_lines(alloc: Global, list: &[Application]) -> Result<Vec<u8>, AllocE
     Ok(text.into_bytes())
 }
 
-/// The block of so many items on so many qubits that is drawn from a seed: a line for each item, with LF at its end.
-/// `AllocError` is want of memory.
+/// The block of so many items on so many qubits that is drawn from a seed: a line for each item, with LF at its end,
+/// of at most 18 bytes. `AllocError` is want of memory.
 ///
 /// Condition: 2 to 16 qubits, 1 to 32,768 items.
-#[tactic(auto, using(crate::proofs::DrawLemmas::drawn_count))]
+#[tactic(auto, using(crate::proofs::DrawLemmas::drawn_count, crate::proofs::LineLemmas::circuit_short))]
 pub fn circuit(alloc: Global, seed: u32, qubits: u32, items: u32) -> Result<Vec<u8>, AllocError>
     requires qubits { (2 ≤ qubits) × (qubits ≤ 16) }
     requires items { (1 ≤ items) × (items ≤ 32768) }
-    ensures { IfOk result (λ v. v.items ≡ circuit_text seed qubits items) }
+    ensures value { IfOk result (λ v. v.items ≡ circuit_text seed qubits items) }
+    ensures short { IfOk result (λ v. vec_len v ≤ 18 * items) }
 {
     let list = applications(alloc, seed, qubits, items)?;
     lines(alloc, &list)
@@ -51,11 +52,12 @@ pub fn circuit(alloc: Global, seed: u32, qubits: u32, items: u32) -> Result<Vec<
 /// The block that undoes that one: the items that undo its items, the last one first. `AllocError` is want of memory.
 ///
 /// Condition: 2 to 16 qubits, 1 to 32,768 items.
-#[tactic(auto, using(crate::proofs::DrawLemmas::drawn_count))]
+#[tactic(auto, using(crate::proofs::DrawLemmas::drawn_count, crate::proofs::LineLemmas::mirror_short))]
 pub fn mirror(alloc: Global, seed: u32, qubits: u32, items: u32) -> Result<Vec<u8>, AllocError>
     requires qubits { (2 ≤ qubits) × (qubits ≤ 16) }
     requires items { (1 ≤ items) × (items ≤ 32768) }
-    ensures { IfOk result (λ v. v.items ≡ mirror_text seed qubits items) }
+    ensures value { IfOk result (λ v. v.items ≡ mirror_text seed qubits items) }
+    ensures short { IfOk result (λ v. vec_len v ≤ 18 * items) }
 {
     let mut list = applications(alloc, seed, qubits, items)?;
     list.reverse();

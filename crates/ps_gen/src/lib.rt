@@ -4,6 +4,7 @@
 pub mod applications;
 pub mod blocks;
 pub mod draws;
+pub mod lines;
 
 pub use blocks::{circuit, mirror};
 
