@@ -1,9 +1,10 @@
 pub mod Answering
+pub mod Edits
+pub mod GenerationLemmas
 pub mod InputLemmas
 pub mod Judging
+pub mod PhaseLines
 pub mod Placing
+pub mod RunLemmas
 pub mod Splitting
 pub mod Verdicts
-pub mod PhaseLines
-pub mod Edits
-pub mod RunLemmas

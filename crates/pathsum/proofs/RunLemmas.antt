@@ -45,7 +45,7 @@ none_ends es cs (inner {es = front} x m i) e =
     both ∙ ap (λ l. l ++ filter (λ y. ends_command y.cmd y.reply) (x ∷ [])) (none_ends front cs m e) ∙ ap (λ b. cond b (x ∷ []) []) i.inner
 none_ends es cs (answer {cs = before} x c m i) e = absurd (last_there before c e)
 
-run_holds : (lines : List Line) (run : Run) (r : IsRunOf lines run) → Holds r.served run.journal
+pub run_holds : (lines : List Line) (run : Run) (r : IsRunOf lines run) → Holds r.served run.journal
 run_holds lines run r = record {
   legal = r.legal;
   each = r.matched;
@@ -166,7 +166,7 @@ module _ (bytes : List ℕ) (e : ScriptFault) (faulty : IsReading 1 bytes (Err e
   answer_refused reads reads' old new status Words s h k w = absurd h
 
 -- ---- how a call ends
-other_number : {a b n : ℕ} → a ≡ n → a ≡ b → n ≡ b
+pub other_number : {a b n : ℕ} → a ≡ n → a ≡ b → n ≡ b
 other_number p q = sym p ∙ q
 
 module _ (told : Option (List ℕ)) (reads reads' : ℕ) (old new : Option (List ℕ)) (f f' : ℕ) (journal : List Entry) (status : ℕ) where

@@ -1,6 +1,8 @@
 pub mod Answers
 pub mod Commands
 pub mod Ended
+pub mod Generated
+pub mod GeneratedRuns
 pub mod Givens
 pub mod Inputs
 pub mod Judgements

@@ -1,16 +1,19 @@
 //! Compares two quantum circuits, and serves scripts of sessions that edit circuits and ask about them.
 #![tactic(auto)]
 
-ghost use Rattle.std.specs.Prelude.{◌≡◌, [], map, string_bytes};
+ghost use Rattle.std.specs.Prelude.{◌≡◌, ℕ, [], map, string_bytes};
 ghost use Rattle.ps_journal.specs.History.{IsLegal};
 ghost use Rattle.pathsum.specs.Ended.{Answers, Ends, IsOneAnswer};
 ghost use Rattle.pathsum.specs.Scripts.{IsRun};
+ghost use Rattle.pathsum.specs.Generated.{AskToGenerate, IsGeneration, GenerationEnds, Generates};
 ghost use Rattle.pathsum.specs.Runs.{RunEnds, Headline, CutShort, IsOneRefusal};
 
 mod answer;
 mod calls;
 mod commands;
 mod ended;
+mod generating;
+mod generation;
 mod input;
 mod pair;
 mod print;
@@ -26,6 +29,8 @@ use answer::Answer;
 pub use calls::{prove_run, replay_run, same_local_run, same_phase_run, same_run};
 use commands::{Command, command_of, is_run};
 pub use ended::Ended;
+pub use generating::gen_run;
+use generation::generation_of;
 use print::print;
 use ps_io::{Gate, OpenGate, Sink, Source, StdSink, StdSource};
 pub use scripts::script_run;
@@ -43,12 +48,13 @@ pub fn run<S: Source, W: Sink, G: Gate + Sync>(
     sink: &mut W,
     gate: &G,
 ) -> Ended
-    // Of all words but `run 0`: what an answer prints that claims this is written, and the status is that answer's.
-    ensures ends { ¬ (IsRun (map string_bytes words.now))
+    // Of all words but `run 0` and `gen S Q N`: what an answer prints that claims this is written, with its status.
+    ensures ends { ¬ (IsRun (map string_bytes words.now)) → ¬ (AskToGenerate (map string_bytes words.now))
         → Ends (Answers (map string_bytes words.now) (S.remaining source.old) (S.faults source.old) (S.faults source.new))
         (W.held sink.old) (W.held sink.new) (W.faults sink.old) (W.faults sink.new) result.status }
     ensures one_answer { IsOneAnswer (map string_bytes words.now) (S.remaining source.old) }
-    ensures unserved { ¬ (IsRun (map string_bytes words.now)) → result.journal ≡ [] }
+    ensures unserved { ¬ (IsRun (map string_bytes words.now)) → ¬ (AskToGenerate (map string_bytes words.now))
+        → result.journal ≡ [] }
 
     // Of `run 0`: however it ends, what is written, of which with status 67 a prefix, and what the journal is.
     ensures run_ends { IsRun (map string_bytes words.now)
@@ -64,13 +70,23 @@ pub fn run<S: Source, W: Sink, G: Gate + Sync>(
     ensures one_refusal { IsRun (map string_bytes words.now)
         → IsOneRefusal (S.remaining source.old) (W.held sink.old) (W.held sink.new) result.status }
 
+    // Of `gen S Q N`: however it ends, what is written, of which with status 67 a prefix, and what the journal is.
+    ensures generation_ends { (seed qubits items : ℕ) → IsGeneration (map string_bytes words.now) seed qubits items
+        → GenerationEnds seed qubits items
+        (W.held sink.old) (W.held sink.new) (W.faults sink.old) (W.faults sink.new) result.journal result.status }
+    // With status 0 the generated commands are answered, and their replies are written.
+    ensures generates { (seed qubits items : ℕ) → IsGeneration (map string_bytes words.now) seed qubits items
+        → result.status ≡ 0 → Generates seed qubits items (W.held sink.old) (W.held sink.new) result.journal }
+
     // Whatever the words and the status, the journal is a legal history.
     ensures legal { IsLegal result.journal }
 {
     if is_run(words) {
-        script_run(alloc, source, sink, gate)
-    } else {
-        command_run(alloc, words, source, sink)
+        return script_run(alloc, source, sink, gate);
+    }
+    match generation_of(words) {
+        Some(wanted) => gen_run(alloc, wanted.seed, wanted.qubits, wanted.items, sink),
+        None => command_run(alloc, words, source, sink),
     }
 }
 

@@ -117,8 +117,8 @@ fn print_replies<W: Sink>(alloc: Global, sink: &mut W, run: &Run) -> u8
     }
 }
 
-// The status of a run.
-fn status_of(ending: Ending) -> u8
+/// The status of a run.
+pub fn status_of(ending: Ending) -> u8
     ensures { result ≡ ending_status ending }
 {
     match ending {

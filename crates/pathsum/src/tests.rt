@@ -531,6 +531,34 @@ fn scripts_are_refused(rt: HostRuntime) -> Result<(), Fail> {
     Ok(())
 }
 
+// What is drawn from a seed is undone again.
+#[test]
+fn generated_scripts_are_served(rt: HostRuntime) -> Result<(), Fail> {
+    let rows = [
+        told(
+            &["gen", "1", "2", "3"],
+            b"",
+            0,
+            b"gen 1 2 3\n0 opened 1 missing 0\n0 committed 2 missing 1\n0 committed 3 missing 1\n0 yes\nentries 8\n",
+        ),
+        Row {
+            failing_write: Some(0),
+            ..told(&["gen", "1", "2", "3"], b"", 67, b"")
+        },
+        told(&["gen", "1", "1", "3"], b"", 64, b"words\n"),
+        told(&["gen", "1", "2", "0"], b"", 64, b"words\n"),
+        told(&["gen", "1", "2", "32769"], b"", 64, b"words\n"),
+        told(&["gen", "4294967296", "2", "3"], b"", 64, b"words\n"),
+        told(&["gen", "01", "2", "3"], b"", 64, b"words\n"),
+        told(&["gen", "+1", "2", "3"], b"", 64, b"words\n"),
+        told(&["gen", "1", "2"], b"", 64, b"words\n"),
+    ];
+    for row in &rows {
+        assert!(rt; ends_so(rt.alloc(), row)?);
+    }
+    Ok(())
+}
+
 // Entry 262,144 has no room: its command is not answered, and that is told.
 #[test]
 fn full_journals_are_told(rt: HostRuntime) -> Result<(), Fail> {

@@ -1,0 +1,7 @@
+use Rattle.std.proofs.Common.{◌≡◌, string_bytes, take}
+use Rattle.std.specs.List.{flat_map}
+use Rattle.ps_gen.specs.Texts.{line}
+use Rattle.ps_gen.proofs.blocks.lines.Given as goal
+
+abbrev pub invariant-loop-application : goal.invariant-loop-application
+invariant-loop-application l = string_bytes l.text ≡ flat_map line (take l.application-index l.fn.list)
