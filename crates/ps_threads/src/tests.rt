@@ -9,7 +9,8 @@ use std::test::Fail;
 #[test]
 fn runs_two_sessions(rt: HostRuntime) -> Result<(), Fail> {
     let alloc = rt.alloc();
-    let bytes = b"0 open g\nOPENQASM 2.0;\nqreg q[1];\n.\n0 splice g 1 0 0\nU(0,0,0) q[0];\n.\n1 show g 1\n";
+    let bytes =
+        b"0 open g\nOPENQASM 2.0;\nqreg q[1];\n.\n0 splice g 1 0 0\nU(0,0,0) q[0];\n.\n1 show g 1\n";
     let Ok(script) = read(alloc, bytes.as_slice()) else {
         panic!(rt; "a script")
     };
