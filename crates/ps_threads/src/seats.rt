@@ -19,7 +19,7 @@ pub fn seat_all(
     jobs: Vec<Job>,
 ) -> Vec<Job>
     requires desk { IsSeatOf desk.now first.old }
-    requires new { Lends (view_of first.old) 1 × ((view_of first.old).seen ≡ []) }
+    requires new { Lends (view_of first.old) 1 }
     requires spare { ((view_of first.old).next ≡ 1) × (vec_len dealt < (view_of first.old).end) }
     requires none { jobs.items ≡ [] }
     requires room { vec_len dealt ≤ vec_capacity jobs }
