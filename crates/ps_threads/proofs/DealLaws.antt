@@ -5,6 +5,7 @@ use mathlib.Core.Logic.{dite}
 use native.Mathlib.Decide.{ℕ_discrete}
 use lib.ListN.{get_elem?}
 use Rattle.std.specs.declared.vec.Vec.{Vec}
+use Rattle.std.specs.declared.alloc.Global.{Global}
 use Rattle.ps_desk.proofs.ListLemmas.{set_there}
 use Rattle.ps_script.specs.declared.command.Command.{Command}
 use Rattle.ps_script.specs.declared.script.Line.{Line}
@@ -14,11 +15,11 @@ use Rattle.ps_threads.specs.Served.{AreDealt}
 use Rattle.ps_threads.proofs.ListLaws.{set_else}
 
 -- nobody has commands yet
-abbrev pub AllEmpty : List (Vec Command) → Type 0
-AllEmpty dealt = (k : ℕ) (v : Vec Command) → get_elem? dealt k ≡ some v → v.items ≡ []
+abbrev pub AllEmpty : List (Vec Command Global) → Type 0
+AllEmpty dealt = (k : ℕ) (v : Vec Command Global) → get_elem? dealt k ≡ some v → v.items ≡ []
 
 -- one line more
-module _ (served : List Line) (l : Line) (dealt : List (Vec Command)) (v w : Vec Command) (all : AreDealt served dealt) (at : get_elem? dealt l.session ≡ some v)
+module _ (served : List Line) (l : Line) (dealt : List (Vec Command Global)) (v w : Vec Command Global) (all : AreDealt served dealt) (at : get_elem? dealt l.session ≡ some v)
     (more : w.items ≡ v.items ++ l.command ∷ []) where
   here : w.items ≡ commands_of (l.session + 1) (served ++ l ∷ [])
   here = more ∙ ap (λ cs. cs ++ l.command ∷ []) (all l.session v at) ∙ sym (commands_here served l)
@@ -29,7 +30,7 @@ module _ (served : List Line) (l : Line) (dealt : List (Vec Command)) (v w : Vec
       (λ same.
           let at' : get_elem? (set dealt l.session w) k ≡ some w = ap (get_elem? (set dealt l.session w)) same ∙ set_there dealt l.session v w at in
           let is : x ≡ w = some-injective x w (sym e ∙ at') in
-          ap (λ (y : Vec Command). y.items) is ∙ here ∙ ap (λ n. commands_of (n + 1) (served ++ l ∷ [])) (sym same))
+          ap (λ (y : Vec Command Global). y.items) is ∙ here ∙ ap (λ n. commands_of (n + 1) (served ++ l ∷ [])) (sym same))
       (λ ne.
           let e' : get_elem? dealt k ≡ some x = sym (set_else dealt l.session k w ne) ∙ e in
           let no : l.session + 1 ≢ k + 1 = λ h. ne (omega (arith, h)) in

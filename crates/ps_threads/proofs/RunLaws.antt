@@ -1,5 +1,5 @@
 -- What the closed journal has of each seat.
-use Rattle.std.proofs.Common.{◌≡◌, ◌≢◌, ◌⊎◌, ℕ, ◌+◌, ◌-◌, ◌<◌, ◌≤◌, cond, List, [], ◌∷◌, ◌++◌, length, refl, sym, ap, ◌∙◌, subst, append-nil, inl, inr, ⊎_elim, arith, ne_eqb}
+use Rattle.std.proofs.Common.{◌≡◌, ◌≢◌, ◌⊎◌, ℕ, suc, ◌+◌, ◌-◌, ◌<◌, ◌≤◌, cond, List, [], ◌∷◌, ◌++◌, length, refl, sym, ap, ◌∙◌, subst, append-nil, inl, inr, ⊎_elim, arith, ne_eqb}
 use Rattle.std.specs.Prelude.{eqb, filter, map}
 use mathlib.Core.Option.{some}
 use mathlib.Core.Logic.{dite}
@@ -161,6 +161,7 @@ module _ (lines : List Line) (v : View Cmd Reply) (journal : List Entry) (closed
           subst (λ es. Matched es (commands_of m lines)) (sym (own_at m e)) (subst (λ k. Matched e.seat.own (commands_of k lines)) e.number m')
 
   cut_short : (ticket : ℕ) → ending ≡ Full ticket → IsCutShort lines ticket journal
+  unfolding first_of
   cut_short ticket full =
       let d = came.cut ticket full in
       let s = d.serves in

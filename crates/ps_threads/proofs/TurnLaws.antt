@@ -15,6 +15,9 @@ use Rattle.ps_history.proofs.Lists.{some_same}
 use Rattle.ps_calls.specs.Turns.{TurnView, Stays, Turned, Refused, desk}
 use Rattle.ps_threads.specs.Seated.{seat_view}
 
+same_desk : (a b : TableId) → desk a ≡ desk b → a ≡ b
+same_desk a b h = cc
+
 module _ {O : Type 0} {o : Ghosts O Cmd Reply} where
   -- what the type of a seat keeps of its own entries
   pub own_is : (s : Seat O Cmd Reply o) → (view_of s).own ≡ own_entries (view_of s).number (view_of s).seen
@@ -55,9 +58,6 @@ module _ {O : Type 0} {o : Ghosts O Cmd Reply} where
     }
 
   -- ---- and back
-  same_desk : (a b : TableId) → desk a ≡ desk b → a ≡ b
-  same_desk a b h = cc
-
   pub stays_desk : (s t : Seat O Cmd Reply o) → Stays (seat_view s) (seat_view t) → desk_of t ≡ desk_of s
   stays_desk s t w = same_desk (desk_of t) (desk_of s) w.over
 

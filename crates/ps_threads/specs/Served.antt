@@ -1,6 +1,7 @@
 -- What threads are given and give back.
 use Rattle.std.specs.Prelude.{◌≡◌, ◌≢◌, ℕ, ◌+◌, ◌≤◌, List, [], ◌++◌, Option, Some}
 use Rattle.std.specs.declared.vec.Vec.{Vec}
+use Rattle.std.specs.declared.alloc.Global.{Global}
 use mathlib.Core.Option.{some}
 use lib.ListN.{get_elem?}
 use Rattle.atomic_table.specs.Seated.{TableId}
@@ -55,8 +56,8 @@ abbrev pub AreServed : List Job → List Finished → Type 0
 AreServed jobs fs = (k : ℕ) (j : Job) (f : Finished) → get_elem? jobs k ≡ some j → get_elem? fs k ≡ some f → IsServedBy j.commands.items j.seat f.seat f.ending
 
 -- the commands of session k stand at place k
-abbrev pub AreDealt : List Line → List (Vec Command) → Type 0
-AreDealt lines dealt = (k : ℕ) (v : Vec Command) → get_elem? dealt k ≡ some v → v.items ≡ commands_of (k + 1) lines
+abbrev pub AreDealt : List Line → List (Vec Command Global) → Type 0
+AreDealt lines dealt = (k : ℕ) (v : Vec Command Global) → get_elem? dealt k ≡ some v → v.items ≡ commands_of (k + 1) lines
 
 -- the job of session k, at place k: its commands, and a fresh seat with the number k + 1
 pub record IsJob (lines : List Line) (desk : TableId) (k : ℕ) (j : Job) : Type 0 where

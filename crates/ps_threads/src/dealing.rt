@@ -1,5 +1,5 @@
 //! The commands of a script, dealt out to their sessions.
-ghost use Rattle.std.specs.Prelude.{◌≡◌, IfOk, vec_len};
+ghost use Rattle.std.specs.Prelude.{◌≡◌, [], IfOk, vec_len};
 ghost use Rattle.ps_threads.specs.Served.{AreDealt};
 
 use ps_script::{Command, Line};

@@ -28,7 +28,7 @@ impl<'a, R: Wait> Session<'a, R> {
 
     /// The seat, after its last turn.
     pub fn finish(self) -> Seat<Book>
-        ensures { result ≡ self.seat }
+        ensures { result ≡ self.entry.seat }
     {
         let Session {
             rt: _,
