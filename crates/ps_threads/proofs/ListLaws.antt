@@ -1,5 +1,5 @@
 -- Lists side by side, and lists with one more at the end.
-use Rattle.std.proofs.Common.{◌≡◌, ◌≢◌, ◌⊎◌, ℕ, zero, suc, ◌+◌, ◌<◌, ◌≤◌, List, [], ◌∷◌, ◌++◌, length, set, refl, sym, ap, ◌∙◌, subst, ⊎_elim, arith}
+use Rattle.std.proofs.Common.{◌≡◌, ◌≢◌, ◌⊎◌, ℕ, zero, suc, ◌+◌, ◌<◌, ◌≤◌, List, [], ◌∷◌, ◌++◌, length, set, get_or, refl, sym, ap, ◌∙◌, subst, ⊎_elim, arith}
 use mathlib.Core.Option.{some, some-ne-none}
 use lib.ListN.{get_elem?}
 use Rattle.atomic_table.proofs.Lists.{at_longer, at_last}
@@ -63,3 +63,9 @@ set_else (x ∷ xs) zero zero b ne = absurd (ne refl)
 set_else (x ∷ xs) zero (suc k) b ne = refl
 set_else (x ∷ xs) (suc i) zero b ne = refl
 set_else (x ∷ xs) (suc i) (suc k) b ne = set_else xs i k b (λ e. ne (ap suc e))
+
+-- what an index reads
+pub at_index : {A : Type 0} (l : List A) (i : ℕ) (d : A) → i < length l → get_elem? l i ≡ some (get_or l i d)
+at_index [] i d low = absurd (omega arith)
+at_index (x ∷ xs) zero d low = refl
+at_index (x ∷ xs) (suc i) d low = at_index xs i d (omega (arith, low))

@@ -5,6 +5,7 @@ use mathlib.Core.Logic.{dite}
 use native.Mathlib.Decide.{ℕ_discrete}
 use lib.ListN.{get_elem?}
 use Rattle.std.specs.declared.vec.Vec.{Vec}
+use Rattle.std.specs.declared.alloc.Global.{Global}
 use Rattle.atomic_table.specs.Seated.{TableId}
 use Rattle.atomic_table.proofs.Lists.{at_longer, at_last}
 use Rattle.ps_desk.specs.declared.view.View.{View}
@@ -22,7 +23,7 @@ use Rattle.ps_sessions.specs.Lines.{commands_of}
 use Rattle.ps_threads.specs.declared.parts.Job.{Job}
 use Rattle.ps_threads.specs.Served.{Serves, AreDealt, IsJob, AreJobs, first_full}
 use Rattle.ps_threads.specs.Lent.{Lends, ServesAs, CutAt, Came}
-use Rattle.ps_threads.proofs.ListLaws.{all_more}
+use Rattle.ps_threads.proofs.ListLaws.{all_more, at_middle}
 
 -- ---- the first seat
 pub lends_none : (v : View Cmd Reply) (seats : ℕ) → v ≡ opened seats → Lends v 1
@@ -107,3 +108,20 @@ module _ (lines : List Line) (n : ℕ) (ending this now : Ending) (v w v' : View
     cut = λ ticket f.
         ⊎_elim (λ e. cut_before ticket (c.cut ticket e)) (λ e. cut_here ticket e) (one_full ending this ticket (sym both ∙ f));
   }
+
+-- ---- one job more
+module _ (lines : List Line) (table : TableId) (dealt before rest : List (Vec Command Global)) (jobs all : List Job) (job : Job) (giver : View Cmd Reply)
+    (split : dealt ≡ before ++ job.commands ∷ rest) (are : AreDealt lines dealt) (placed : length before ≡ length jobs) (each : AreJobs lines table jobs)
+    (is : all ≡ jobs ++ job ∷ []) (here : desk_of job.seat ≡ table) (new : view_of job.seat ≡ given giver) (next : giver.next ≡ length jobs + 1) where
+  job_is : IsJob lines table (length jobs) job
+  job_is = record {
+    desk_is = here;
+    number = ap (λ (v : View Cmd Reply). v.number) new ∙ next;
+    fresh = record { own = ap (λ (v : View Cmd Reply). v.own) new; ended = ap (λ (v : View Cmd Reply). v.ended) new };
+    commands =
+        are (length before) job.commands (ap (λ l. get_elem? l (length before)) split ∙ at_middle before rest job.commands)
+        ∙ ap (λ n. commands_of (n + 1) lines) placed;
+  }
+
+  pub jobs_more : AreJobs lines table all
+  jobs_more = all_more jobs all job is (IsJob lines table) each job_is

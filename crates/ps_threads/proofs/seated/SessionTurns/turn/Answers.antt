@@ -1,4 +1,4 @@
-use Rattle.std.specs.Result.{IfOk-weaker}
+use Rattle.std.proofs.lemmas.Result.{IfOk-weaker}
 use Rattle.ps_threads.proofs.TurnLaws.{turn_done}
 use Rattle.ps_threads.proofs.seated.SessionTurns.turn.Goals as goal
 
