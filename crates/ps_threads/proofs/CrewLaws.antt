@@ -1,5 +1,5 @@
 -- Jobs, one more with each step, and what became of them.
-use Rattle.std.proofs.Common.{◌≡◌, ℕ, List, [], ◌∷◌, ◌++◌, length}
+use Rattle.std.proofs.Common.{◌≡◌, List, [], ◌∷◌, ◌++◌, length}
 use Rattle.ps_desk.specs.declared.seat.Desk.{Desk}
 use Rattle.ps_desk.specs.Seats.{IsSeatOf}
 use Rattle.ps_journal.specs.declared.commands.Cmd.{Cmd}

@@ -1,5 +1,5 @@
 -- Commands dealt out to their sessions.
-use Rattle.std.proofs.Common.{◌≡◌, ◌≢◌, ℕ, ◌+◌, List, [], ◌∷◌, ◌++◌, length, set, refl, sym, ap, ◌∙◌, subst, arith, ne_eqb}
+use Rattle.std.proofs.Common.{◌≡◌, ◌≢◌, ℕ, ◌+◌, List, [], ◌∷◌, ◌++◌, set, sym, ap, ◌∙◌, arith, ne_eqb}
 use mathlib.Core.Option.{some, some-injective}
 use mathlib.Core.Logic.{dite}
 use native.Mathlib.Decide.{ℕ_discrete}
@@ -28,10 +28,10 @@ module _ (served : List Line) (l : Line) (dealt : List (Vec Command Global)) (v 
   dealt_more k x e =
       dite (ℕ_discrete k l.session)
       (λ same.
-          let at' : get_elem? (set dealt l.session w) k ≡ some w = ap (get_elem? (set dealt l.session w)) same ∙ set_there dealt l.session v w at in
-          let is : x ≡ w = some-injective x w (sym e ∙ at') in
-          ap (λ (y : Vec Command Global). y.items) is ∙ here ∙ ap (λ n. commands_of (n + 1) (served ++ l ∷ [])) (sym same))
+      let at' : get_elem? (set dealt l.session w) k ≡ some w = ap (get_elem? (set dealt l.session w)) same ∙ set_there dealt l.session v w at in
+      let is : x ≡ w = some-injective x w (sym e ∙ at') in
+      ap (λ (y : Vec Command Global). y.items) is ∙ here ∙ ap (λ n. commands_of (n + 1) (served ++ l ∷ [])) (sym same))
       (λ ne.
-          let e' : get_elem? dealt k ≡ some x = sym (set_else dealt l.session k w ne) ∙ e in
-          let no : l.session + 1 ≢ k + 1 = λ h. ne (omega (arith, h)) in
-          all k x e' ∙ sym (commands_there (k + 1) served l (ne_eqb (seat_of l) (k + 1) no)))
+      let e' : get_elem? dealt k ≡ some x = sym (set_else dealt l.session k w ne) ∙ e in
+      let no : l.session + 1 ≢ k + 1 = λ h. ne (omega (arith, h)) in
+      all k x e' ∙ sym (commands_there (k + 1) served l (ne_eqb (seat_of l) (k + 1) no)))

@@ -1,5 +1,5 @@
 -- What the closed journal has of each seat.
-use Rattle.std.proofs.Common.{◌≡◌, ◌≢◌, ◌⊎◌, ℕ, suc, ◌+◌, ◌-◌, ◌<◌, ◌≤◌, cond, List, [], ◌∷◌, ◌++◌, length, refl, sym, ap, ◌∙◌, subst, append-nil, inl, inr, ⊎_elim, arith, ne_eqb}
+use Rattle.std.proofs.Common.{◌≡◌, ◌≢◌, ◌⊎◌, ℕ, suc, ◌-◌, ◌<◌, ◌≤◌, cond, List, [], ◌∷◌, ◌++◌, length, refl, sym, ap, ◌∙◌, subst, append-nil, inl, inr, ⊎_elim, arith, ne_eqb}
 use Rattle.std.specs.Prelude.{eqb, filter, map}
 use mathlib.Core.Option.{some}
 use mathlib.Core.Logic.{dite}
@@ -9,8 +9,8 @@ use Rattle.atomic_table.specs.Seated.{TableId}
 use Rattle.ps_desk.specs.declared.view.View.{View}
 use Rattle.ps_desk.specs.declared.view.Ended.{Ended}
 use Rattle.ps_desk.specs.declared.seat.Desk.{Desk}
-use Rattle.ps_desk.specs.Rule.{Core, core}
-use Rattle.ps_desk.specs.Seats.{view_of, desk_of, IsSeatOf, Closed}
+use Rattle.ps_desk.specs.Rule.{Core}
+use Rattle.ps_desk.specs.Seats.{view_of, Closed}
 use Rattle.ps_script.specs.declared.command.Command.{Command}
 use Rattle.ps_script.specs.declared.script.Line.{Line}
 use Rattle.ps_journal.specs.declared.commands.Cmd.{Cmd}
@@ -25,8 +25,8 @@ use Rattle.ps_sessions.proofs.Judgements.{legal_just}
 use Rattle.ps_threads.specs.declared.parts.Job.{Job}
 use Rattle.ps_threads.specs.declared.parts.Finished.{Finished}
 use Rattle.ps_threads.specs.declared.runs.Run.{Run}
-use Rattle.ps_threads.specs.Served.{Serves, IsJob, AreJobs, JobsAt, AreServed, IsBack, AreBack, AllServe}
-use Rattle.ps_threads.specs.Lent.{ServesAs, CutAt, Came}
+use Rattle.ps_threads.specs.Served.{Serves, AreJobs, JobsAt, AreServed, AreBack, AllServe}
+use Rattle.ps_threads.specs.Lent.{ServesAs, Came}
 use Rattle.ps_threads.specs.Runs.{AnswersFirst, IsCutShort, IsRunOf}
 use Rattle.ps_threads.proofs.ListLaws.{there, within}
 
@@ -107,10 +107,10 @@ module _ (lines : List Line) (v : View Cmd Reply) (journal : List Entry) (closed
   no_entry m (inl z) = ap (λ k. own_entries k journal) z ∙ sym closed.own ∙ alone
   no_entry m (inr high) =
       none_of m journal (λ k x at same.
-          ⊎_elim
-          (λ z. omega (arith, z, same, high))
-          (λ e. let h = came.numbers e.0 e.1 e.2 in let s = e.3 in omega (arith, h, s, same, high))
-          (closed.all k x at))
+      ⊎_elim
+      (λ z. omega (arith, z, same, high))
+      (λ e. let h = came.numbers e.0 e.1 e.2 in let s = e.3 in omega (arith, h, s, same, high))
+      (closed.all k x at))
 
   first_of : (m : ℕ) (e : Ended Cmd Reply) (b : Ending) → own_entries m journal ≡ e.own → e.number ≡ m → ServesAs lines e b
       → AnswersFirst (commands_of m lines) (own_entries m journal)

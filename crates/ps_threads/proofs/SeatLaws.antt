@@ -1,5 +1,5 @@
 -- Seats that go out, and come back.
-use Rattle.std.proofs.Common.{◌≡◌, ◌≢◌, ◌⊎◌, ℕ, ◌+◌, ◌<◌, ◌≤◌, List, [], ◌∷◌, ◌++◌, length, refl, sym, ap, ◌∙◌, subst, inl, inr, ⊎_elim, arith}
+use Rattle.std.proofs.Common.{◌≡◌, ◌⊎◌, ℕ, ◌+◌, ◌<◌, List, [], ◌∷◌, ◌++◌, length, refl, sym, ap, ◌∙◌, subst, inl, inr, ⊎_elim, arith}
 use mathlib.Core.Option.{some, some-ne-none}
 use mathlib.Core.Logic.{dite}
 use native.Mathlib.Decide.{ℕ_discrete}
@@ -12,7 +12,7 @@ use Rattle.ps_desk.specs.declared.view.View.{View}
 use Rattle.ps_desk.specs.declared.view.Ended.{Ended}
 use Rattle.ps_desk.specs.Views.{Has, giving, given, joined, ended_of, opened, take_out}
 use Rattle.ps_desk.specs.Seats.{view_of, desk_of}
-use Rattle.ps_desk.proofs.ListLemmas.{at_end, has_less, length_less}
+use Rattle.ps_desk.proofs.ListLemmas.{has_less, length_less}
 use Rattle.ps_script.specs.declared.command.Command.{Command}
 use Rattle.ps_script.specs.declared.script.Line.{Line}
 use Rattle.ps_journal.specs.declared.commands.Cmd.{Cmd}

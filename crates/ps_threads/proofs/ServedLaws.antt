@@ -1,5 +1,5 @@
 -- The commands of one session, one after another.
-use Rattle.std.proofs.Common.{◌≡◌, ◌≢◌, ◌≤◌, ℕ, List, [], ◌∷◌, ◌++◌, Option, Some, refl, sym, ap, ◌∙◌, subst, append-nil}
+use Rattle.std.proofs.Common.{◌≡◌, ◌≤◌, ℕ, List, [], ◌∷◌, ◌++◌, Option, Some, refl, sym, ◌∙◌, subst, append-nil}
 use Rattle.ps_desk.specs.declared.object.Object.{Ghosts}
 use Rattle.ps_desk.specs.declared.seat.Seat.{Seat}
 use Rattle.ps_desk.specs.Rule.{core}
@@ -12,7 +12,6 @@ use Rattle.ps_history.specs.Inner.{Idles}
 use Rattle.ps_history.specs.Matching.{Matched, nothing, Answers}
 use Rattle.ps_history.proofs.Lists.{last_there}
 use Rattle.ps_calls.specs.Calls.{Done as IsDone, Cut, Grows, own}
-use Rattle.ps_sessions.specs.declared.runs.Ending.{Ending}
 use Rattle.ps_sessions.specs.declared.runs.Ending.TheVariants.{Done, Full}
 use Rattle.ps_sessions.proofs.Matchings.{matched_idles, matched_answer}
 use Rattle.ps_threads.specs.Seated.{seat_view}

@@ -1,18 +1,18 @@
 -- Turns at a desk, as what a session takes.
-use Rattle.std.proofs.Common.{◌≡◌, ◌≤◌, ℕ, true, false, List, [], ◌∷◌, ◌++◌, Option, Some, refl, sym, ap, ◌∙◌, subst}
+use Rattle.std.proofs.Common.{◌≡◌, ◌≤◌, ℕ, [], ◌∷◌, ◌++◌, Some, refl, sym, ap, ◌∙◌, subst}
 use Rattle.std.proofs.lemmas.Bool.{false≢true}
 use Rattle.atomic_table.specs.Seated.{TableId}
 use Rattle.ps_desk.specs.declared.object.Object.{Ghosts}
 use Rattle.ps_desk.specs.declared.view.View.{View}
 use Rattle.ps_desk.specs.declared.seat.Seat.{Seat}
 use Rattle.ps_desk.specs.Rule.{core}
-use Rattle.ps_desk.specs.Views.{entry, own_of, after, refusing}
+use Rattle.ps_desk.specs.Views.{entry, refusing}
 use Rattle.ps_desk.specs.Seats.{view_of, desk_of, Turned as DeskTurned}
 use Rattle.ps_journal.specs.declared.commands.Cmd.{Cmd}
 use Rattle.ps_journal.specs.declared.replies.Reply.{Reply}
-use Rattle.ps_journal.specs.History.{Entry, IsLegal, own_entries}
+use Rattle.ps_journal.specs.History.{IsLegal, own_entries}
 use Rattle.ps_history.proofs.Lists.{some_same}
-use Rattle.ps_calls.specs.Turns.{TurnView, Stays, Turned, Refused, desk}
+use Rattle.ps_calls.specs.Turns.{Stays, Turned, Refused, desk}
 use Rattle.ps_threads.specs.Seated.{seat_view}
 
 same_desk : (a b : TableId) → desk a ≡ desk b → a ≡ b

@@ -1,4 +1,4 @@
-use Rattle.std.proofs.Common.{rules, ◌≡◌, [], arith}
+use Rattle.std.proofs.Common.{◌≡◌, [], arith}
 use Rattle.ps_threads.proofs.ListLaws.{all_more}
 use Rattle.ps_threads.proofs.dealing.nothing.Goals as goal
 

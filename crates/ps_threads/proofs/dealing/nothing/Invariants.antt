@@ -1,4 +1,4 @@
-use Rattle.std.proofs.Common.{◌≡◌, ◌+◌, ◌≤◌, vec_len, vec_capacity}
+use Rattle.std.proofs.Common.{◌≡◌, ◌≤◌, vec_len, vec_capacity}
 use Rattle.ps_threads.proofs.DealLaws.{AllEmpty}
 use Rattle.ps_threads.proofs.dealing.nothing.Given as goal
 

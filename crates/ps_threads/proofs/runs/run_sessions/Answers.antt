@@ -1,4 +1,4 @@
-use Rattle.std.proofs.Common.{rules, ◌≡◌, length, refl, sym, ◌∙◌, subst, vec_len, arith}
+use Rattle.std.proofs.Common.{◌≡◌, length, refl, sym, ◌∙◌, subst, vec_len, arith}
 use Rattle.ps_desk.specs.Seats.{desk_of, view_of}
 use Rattle.ps_book.specs.Books.{entries}
 use Rattle.ps_threads.specs.Served.{AreBack}

@@ -1,6 +1,4 @@
 use Rattle.std.proofs.Common.{rules, ◌≡◌, ◌+◌, ◌∷◌, [], ◌++◌, length, ap, sym, ◌∙◌, subst, append_assoc, length-append, vec_len, arith}
-use mathlib.Core.Option.{some}
-use lib.ListN.{get_elem?}
 use Rattle.std.specs.Vec.Iter.{into_iter_items}
 use Rattle.ps_desk.specs.declared.view.View.{View}
 use Rattle.ps_desk.specs.Seats.{desk_of, view_of}

@@ -1,14 +1,12 @@
 use Rattle.std.proofs.Common.{◌≡◌, ◌+◌, ◌<◌, ◌∷◌, ◌++◌, [], length, length-append, ap, sym, ◌∙◌, subst, vec_len, arith}
-use mathlib.Core.Option.{some}
-use lib.ListN.{get_elem?}
 use Rattle.ps_desk.specs.declared.view.View.{View}
 use Rattle.ps_desk.specs.declared.view.Ended.{Ended}
-use Rattle.ps_desk.specs.Seats.{desk_of, view_of}
+use Rattle.ps_desk.specs.Seats.{view_of}
 use Rattle.ps_desk.specs.Views.{Has, ended_of}
 use Rattle.ps_journal.specs.declared.commands.Cmd.{Cmd}
 use Rattle.ps_journal.specs.declared.replies.Reply.{Reply}
 use Rattle.ps_sessions.specs.Lines.{commands_of}
-use Rattle.ps_threads.specs.Served.{Serves, IsBack}
+use Rattle.ps_threads.specs.Served.{Serves}
 use Rattle.ps_threads.proofs.ListLaws.{front_at, last_at}
 use Rattle.ps_threads.proofs.SeatLaws.{lends_less, came_more}
 use Rattle.ps_threads.proofs.seats.take_back.Goals as goal
@@ -66,6 +64,6 @@ loop-finished-preserved c =
           subst (λ n. Serves (commands_of n lines) w.own w.refused f.ending) (sym last.number) (both.0 (length rest) f at) in (
             (λ k f' e. both.0 k f' (front_at rest all f items k f' e)),
             came_more lines (vec_len c.args.done) c.loop-finished.ending f.ending c.earlier-ending.result old w new both.1 c.earlier-ending.ensures joins
-            last.ended below serves,
+                last.ended below serves,
           );
     }
