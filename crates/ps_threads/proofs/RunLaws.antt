@@ -1,5 +1,5 @@
 -- What the closed journal has of each seat.
-use Rattle.std.proofs.Common.{◌≡◌, ◌≢◌, ◌⊎◌, ℕ, suc, ◌-◌, ◌<◌, ◌≤◌, cond, List, [], ◌∷◌, ◌++◌, length, refl, sym, ap, ◌∙◌, subst, append-nil, inl, inr, ⊎_elim, arith, ne_eqb}
+use Rattle.std.proofs.Common.{◌≡◌, ◌≢◌, ◌⊎◌, ℕ, suc, ◌-◌, ◌<◌, ◌≤◌, cond, List, [], ◌∷◌, ◌++◌, length, get_or, refl, sym, ap, ◌∙◌, subst, append-nil, inl, inr, ⊎_elim, arith, ne_eqb}
 use Rattle.std.specs.Prelude.{eqb, filter, map}
 use mathlib.Core.Option.{some}
 use mathlib.Core.Logic.{dite}
@@ -11,6 +11,7 @@ use Rattle.ps_desk.specs.declared.view.Ended.{Ended}
 use Rattle.ps_desk.specs.declared.seat.Desk.{Desk}
 use Rattle.ps_desk.specs.Rule.{Core}
 use Rattle.ps_desk.specs.Seats.{view_of, Closed}
+use Rattle.ps_desk.proofs.ListLemmas.{owned}
 use Rattle.ps_script.specs.declared.command.Command.{Command}
 use Rattle.ps_script.specs.declared.script.Line.{Line}
 use Rattle.ps_journal.specs.declared.commands.Cmd.{Cmd}
@@ -28,7 +29,7 @@ use Rattle.ps_threads.specs.declared.runs.Run.{Run}
 use Rattle.ps_threads.specs.Served.{Serves, AreJobs, JobsAt, AreServed, AreBack, AllServe}
 use Rattle.ps_threads.specs.Lent.{ServesAs, Came}
 use Rattle.ps_threads.specs.Runs.{AnswersFirst, IsCutShort, IsRunOf}
-use Rattle.ps_threads.proofs.ListLaws.{there, within}
+use Rattle.ps_threads.proofs.ListLaws.{there, within, at_index}
 
 -- ---- the jobs, and what became of them
 pub jobs_at : (lines : List Line) (desk : Desk Book Cmd Reply) (table : TableId) (jobs : List Job) → table ≡ desk.table.shared.table_id → AreJobs lines table jobs
@@ -183,3 +184,12 @@ module _ (lines : List Line) (v : View Cmd Reply) (journal : List Entry) (closed
         cut = cut_short;
         just = legal_just journal (λ m. (part m).served) closed.lawful (λ m. (part m).matched);
       })
+
+-- ---- each entry is of a session
+pub entries_numbered : (lines : List Line) (r : Run) → IsRunOf lines r → (k : ℕ) (d : Entry) → k < length r.journal → 1 ≤ (get_or r.journal k d).seat
+entries_numbered lines r w k d low =
+    let x = get_or r.journal k d in
+    let none : own_entries 0 r.journal ≡ [] = w.others 0 (no_commands lines 0 (inl refl)) in
+    dite (ℕ_discrete x.seat 0)
+    (λ z. absurd (owned r.journal k x (at_index r.journal k d low) (ap (λ n. own_entries n r.journal) z ∙ none)))
+    (λ ne. omega (arith, ne))
