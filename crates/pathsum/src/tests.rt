@@ -17,11 +17,7 @@ struct Row<'a> {
 }
 
 // Whether the call ends so.
-fn ends_so<R: Threads + Wait + Sync>(
-    rt: &R,
-    alloc: Global,
-    row: &Row,
-) -> Result<bool, AllocError> {
+fn ends_so<R: Threads + Wait + Sync>(rt: &R, alloc: Global, row: &Row) -> Result<bool, AllocError> {
     let mut words = Vec::new(alloc);
     for word in row.words {
         words.push(String::from_str(alloc, word)?)?;
@@ -433,7 +429,13 @@ fn derivations_are_replayed(rt: HostRuntime) -> Result<(), Fail> {
     for (first, document, status, printed) in rows {
         let texts = pair(alloc, 1, first, "")?;
         let input = format!(in alloc; "{texts}====\n{document}")?;
-        assert!(rt; ends_so(&rt, alloc, &told(&["replay"], input.as_bytes(), status, printed))?);
+        assert!(rt;
+            ends_so(
+                &rt,
+                alloc,
+                &told(&["replay"], input.as_bytes(), status, printed)
+            )?
+        );
     }
     Ok(())
 }
@@ -471,7 +473,13 @@ fn words_and_faults_of_the_outside_are_told(rt: HostRuntime) -> Result<(), Fail>
 fn long_input_is_told(rt: HostRuntime) -> Result<(), Fail> {
     let alloc = rt.alloc();
     let longest = vec![in alloc; b' '; 16_777_216]?;
-    assert!(rt; ends_so(&rt, alloc, &same(&longest, 65, b"input Separator 1:16777217\n"))?);
+    assert!(rt;
+        ends_so(
+            &rt,
+            alloc,
+            &same(&longest, 65, b"input Separator 1:16777217\n")
+        )?
+    );
     let longer = vec![in alloc; b' '; 16_777_217]?;
     assert!(rt; ends_so(&rt, alloc, &same(&longer, 68, b"too long\n"))?);
     Ok(())
@@ -495,7 +503,13 @@ fn scripts_are_served(rt: HostRuntime) -> Result<(), Fail> {
     let answered = format!(in alloc;
         "0 opened 1 missing 1\n0 opened 1 missing 0\n0 yes\n0 sum k=0 m=0 P=0 f=x0\n0 proof 11\n{DERIVATION}0 opened 1 missing 0\n0 widths 1 2\n"
     )?;
-    assert!(rt; ends_so(&rt, alloc, &script(asked.as_bytes(), 0, answered.as_bytes()))?);
+    assert!(rt;
+        ends_so(
+            &rt,
+            alloc,
+            &script(asked.as_bytes(), 0, answered.as_bytes())
+        )?
+    );
     let turned = format!(in alloc;
         "{PLUS}0 ask phase a 1 b 1\n0 splice a 1 2 2\nt q[0];\n.\n0 ask a 1 a 2\n0 retire a 1\n0 ask a 1 a 2\n"
     )?;
