@@ -129,6 +129,7 @@ fn texts_are_compared_up_to_a_phase(rt: HostRuntime) -> Result<(), Fail> {
         let input = pair(alloc, 1, first, second)?;
         assert!(rt;
             ends_so(
+                &rt,
                 alloc,
                 &told(&["same", "phase"], input.as_bytes(), status, printed)
             )?
@@ -219,6 +220,7 @@ fn edits_are_answered(rt: HostRuntime) -> Result<(), Fail> {
         let input = pair(alloc, qubits, first, second)?;
         assert!(rt;
             ends_so(
+                &rt,
                 alloc,
                 &told(&["same", "local"], input.as_bytes(), status, printed)
             )?
@@ -238,6 +240,7 @@ fn limits_are_told(rt: HostRuntime) -> Result<(), Fail> {
     let terms = pair(alloc, 64, flips.as_str(), "")?;
     assert!(rt;
         ends_so(
+            &rt,
             alloc,
             &same(terms.as_bytes(), 2, b"unknown passed terms 679120\n")
         )?
@@ -249,6 +252,7 @@ fn limits_are_told(rt: HostRuntime) -> Result<(), Fail> {
     let variables = pair(alloc, 64, layers.as_str(), "")?;
     assert!(rt;
         ends_so(
+            &rt,
             alloc,
             &same(variables.as_bytes(), 2, b"unknown passed variables 513\n")
         )?
@@ -367,6 +371,7 @@ fn derivations_are_printed(rt: HostRuntime) -> Result<(), Fail> {
     let yes = pair(alloc, 1, "h q[0];\nh q[0];\n", "")?;
     assert!(rt;
         ends_so(
+            &rt,
             alloc,
             &told(&["prove"], yes.as_bytes(), 0, DERIVATION.as_bytes())
         )?
@@ -515,6 +520,7 @@ fn scripts_are_served(rt: HostRuntime) -> Result<(), Fail> {
     )?;
     assert!(rt;
         ends_so(
+            &rt,
             alloc,
             &script(
                 turned.as_bytes(),
