@@ -19,7 +19,8 @@ use Rattle.pathsum.specs.Runs.{Holds}
 use Rattle.pathsum.specs.Outcomes.{ending_status}
 use Rattle.pathsum.specs.Generated.{IsNumber, IsWithin, IsGeneration, IsGeneratedScript, empty_circuit, heading, Generates, GenerationComes, starved, done, full, GenerationEnds}
 use Rattle.pathsum.specs.GeneratedRuns.{IsGeneratedRun, closing_line, generated_text, PrintsGenerated}
-use Rattle.pathsum.proofs.RunLemmas.{run_holds, other_number}
+use Rattle.pathsum.proofs.AloneLemmas.{run_holds}
+use Rattle.pathsum.proofs.RunLemmas.{other_number}
 
 -- ---- numbers
 pub clash : {b : Bool} → b ≡ false → b ≡ true → ⊥

@@ -1,3 +1,4 @@
+pub mod AloneLemmas
 pub mod Answering
 pub mod Edits
 pub mod GenerationLemmas

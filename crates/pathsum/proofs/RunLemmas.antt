@@ -14,10 +14,10 @@ use Rattle.ps_history.proofs.Lists.{last_there}
 use Rattle.ps_reply.specs.Lines.{journal_text, IsOfSession}
 use Rattle.ps_sessions.specs.declared.runs.Ending.{Ending}
 use Rattle.ps_sessions.specs.declared.runs.Ending.TheVariants as ending
-use Rattle.ps_sessions.specs.declared.runs.Run.{Run}
+use Rattle.ps_threads.specs.declared.runs.Run.{Run}
 use Rattle.ps_sessions.specs.Lines.{commands_of}
-use Rattle.ps_sessions.specs.Runs.{IsRunOf}
-use Rattle.ps_sessions.proofs.Above.{of_sessions}
+use Rattle.ps_threads.specs.Runs.{IsRunOf}
+use Rattle.ps_threads.proofs.RunLaws.{entries_numbered}
 use Rattle.pathsum.specs.declared.answer.Answer.{Answer}
 use Rattle.pathsum.specs.declared.answer.Answer.TheVariants.{Yes, Proof, YesPhase, No, NoPair, NoBehind, Stuck, Passed, Accepted, Rejected, Left, Refused, Words, Read, TooLong, Memory}
 use Rattle.pathsum.specs.declared.scripts.Outcome.{Outcome}
@@ -25,7 +25,7 @@ use Rattle.pathsum.specs.declared.scripts.Outcome.TheVariants.{Hindered, Served}
 use Rattle.pathsum.specs.Answers.{status_of, text_of}
 use Rattle.pathsum.specs.Ended.{Writes, whole, failed}
 use Rattle.pathsum.specs.Scripts.{Gives, IsScript, IsFaulty, answer_to}
-use Rattle.pathsum.specs.Runs.{Holds, Headline, CutShort, Hinders, Comes, hindered, starved, done, full, RunEnds, IsOneRefusal, IsRefusedAs, refused, unread, unwritten, wanting}
+use Rattle.pathsum.specs.Runs.{Holds, HoldsFirst, Headline, CutShort, Hinders, Comes, hindered, starved, done, full, RunEnds, IsOneRefusal, IsRefusedAs, refused, unread, unwritten, wanting}
 use Rattle.pathsum.specs.Outcomes.{YieldsOf, YieldsRun, Yields, ending_status, last_line, run_text, PrintsRun}
 
 -- ---- what bytes come to
@@ -37,21 +37,26 @@ fault_yields bytes (fault.Session n) a k o q = inr (fault.Session n, record { re
 fault_yields bytes (fault.Block n) a k o q = inr (fault.Block n, record { reads = k; only = o }, q)
 fault_yields bytes fault.Memory a k o q = inl q
 
--- entries that match no command end none
-none_ends : (es : List Entry) (cs : List Command) → Matched es cs → cs ≡ [] → session_entries es ≡ []
-none_ends es cs nothing e = refl
-none_ends es cs (inner {es = front} x m i) e =
-    let both = filter-append (λ y. ends_command y.cmd y.reply) front (x ∷ []) in
-    both ∙ ap (λ l. l ++ filter (λ y. ends_command y.cmd y.reply) (x ∷ [])) (none_ends front cs m e) ∙ ap (λ b. cond b (x ∷ []) []) i.inner
-none_ends es cs (answer {cs = before} x c m i) e = absurd (last_there before c e)
+-- a seat without commands has no entry, and so none that ends one
+none_ends : (lines : List Line) (run : Run) → IsRunOf lines run → (seat : ℕ) → commands_of seat lines ≡ [] → session_entries (own_entries seat run.journal) ≡ []
+none_ends lines run r seat e = ap session_entries (r.others seat e)
 
-pub run_holds : (lines : List Line) (run : Run) (r : IsRunOf lines run) → Holds r.served run.journal
-run_holds lines run r = record {
-  legal = r.legal;
-  each = r.matched;
-  others = λ seat e. none_ends (own_entries seat run.journal) (commands_of seat r.served) (r.matched seat) e;
-  just = r.just;
-}
+run_holds : (lines : List Line) (run : Run) → IsRunOf lines run → run.ending ≡ ending.Done → Holds lines run.journal
+run_holds lines run r e = record { legal = r.legal; each = r.complete e; others = none_ends lines run r; just = r.just }
+
+run_holds_first : (lines : List Line) (run : Run) (ticket : ℕ) → IsRunOf lines run → run.ending ≡ ending.Full ticket → HoldsFirst lines run.journal
+run_holds_first lines run ticket r e =
+    let cut = r.cut ticket e in
+    record {
+      legal = r.legal;
+      each = r.parts;
+      others = none_ends lines run r;
+      just = r.just;
+      seat = cut.seat;
+      cut = cut.part;
+      some_left = cut.some_left;
+      full = cut.full;
+    }
 
 pub none_is_legal : (journal : List Entry) → journal ≡ [] → IsLegal journal
 none_is_legal journal j = subst IsLegal (sym j) nothing_is_legal
@@ -61,7 +66,7 @@ module _ (told : Option (List ℕ)) where
   run_is_legal journal run y j = subst IsLegal (sym j) y.2.2.legal
 
   pub run_of_sessions : (run : Run) → YieldsRun told run → All IsOfSession run.journal
-  run_of_sessions run y = of_sessions y.2.0 run y.2.2
+  run_of_sessions run y = λ k d low ends. entries_numbered y.2.0 run y.2.2 k d low
 
   module _ (reads reads' : ℕ) where
     fault_hinders : (bytes : List ℕ) (e : ScriptFault) → Gives told bytes → IsFaulty bytes e → Hinders told reads reads' (answer_to e)
@@ -78,12 +83,10 @@ module _ (told : Option (List ℕ)) where
     run_comes : (bytes : List ℕ) (lines : List Line) (run : Run) (x : Ending) → Gives told bytes → IsScript bytes lines → IsRunOf lines run
         → run.ending ≡ x → Comes told reads reads' run.journal (ending_status run.ending) (run_text run)
     run_comes bytes lines run ending.Done g s r e =
-        let all : r.served ≡ lines = sym (r.split ∙ ap (λ l. r.served ++ l) (r.complete e) ∙ append-nil r.served) in
-        done bytes lines g s (subst (λ (l : List Line). Holds l run.journal) all (run_holds lines run r)) (ap ending_status e)
+        done bytes lines g s (run_holds lines run r e) (ap ending_status e)
         (ap (λ (x : Ending). journal_text run.journal ++ last_line x) e ∙ append-nil (journal_text run.journal))
     run_comes bytes lines run (ending.Full ticket) g s r e =
-        let cut = r.cut ticket e in
-        full bytes r.served r.left g (subst (IsScript bytes) r.split s) cut.some_left (run_holds lines run r) cut.full (ap ending_status e)
+        full bytes lines g s (run_holds_first lines run ticket r e) (ap ending_status e)
         (ap (λ (x : Ending). journal_text run.journal ++ last_line x) e)
 
     -- ---- statuses that no answer has where no command was done
@@ -195,7 +198,7 @@ module _ (told : Option (List ℕ)) (reads reads' : ℕ) (old new : Option (List
   headline_from n t (starved w x) e k = absurd (omega (arith, w, e))
   headline_from n t (done bytes lines g s h w x) e k =
       record { bytes = bytes; lines = lines; given = g; script = s; holds = h; written = k ∙ ap (append_known old) x }
-  headline_from n t (full bytes served left g s l h c w x) e k = absurd (omega (arith, w, e))
+  headline_from n t (full bytes lines g s h w x) e k = absurd (omega (arith, w, e))
 
   headline_by : (n : ℕ) (t : List ℕ) → Comes told reads reads' journal n t → Writes old new f f' t n status → status ≡ 0 → Headline told old new journal
   headline_by n t c (whole k e) z = headline_from n t c (other_number e z) k
@@ -208,15 +211,12 @@ module _ (told : Option (List ℕ)) (reads reads' : ℕ) (old new : Option (List
   cut_from n t (hindered a h j w x) e k = absurd (not_full told reads reads' a h (other_number w e))
   cut_from n t (starved w x) e k = absurd (omega (arith, w, e))
   cut_from n t (done bytes lines g s h w x) e k = absurd (omega (arith, w, e))
-  cut_from n t (full bytes served left g s l h c w x) e k = record {
+  cut_from n t (full bytes lines g s h w x) e k = record {
     bytes = bytes;
-    served = served;
-    left = left;
+    lines = lines;
     given = g;
     script = s;
-    some_left = l;
     holds = h;
-    full = c;
     written = k ∙ ap (append_known old) x;
   }
 
@@ -233,7 +233,7 @@ module _ (reads reads' : ℕ) (old new : Option (List ℕ)) (f f' : ℕ) (journa
     refused_from n t (hindered a h j w x) k y = answer_refused bytes e faulty reads reads' old new status a short h (k ∙ w) (y ∙ ap (append_known old) x)
     refused_from n t (starved w x) k y = wanting (k ∙ w)
     refused_from n t (done given lines g p h w x) k y = absurd (no_script bytes e faulty given lines g p)
-    refused_from n t (full given served left g p l h c w x) k y = absurd (no_script bytes e faulty given (served ++ left) g p)
+    refused_from n t (full given lines g p h w x) k y = absurd (no_script bytes e faulty given lines g p)
 
     refused_by : (n : ℕ) (t : List ℕ) → Comes (Some bytes) reads reads' journal n t → Writes old new f f' t n status → IsRefusedAs e old new status
     refused_by n t c (whole y k) = refused_from n t c k y

@@ -5,8 +5,8 @@ use Rattle.ps_script.specs.declared.fault.ScriptFault.{ScriptFault}
 use Rattle.ps_reply.specs.Lines.{journal_text}
 use Rattle.ps_sessions.specs.declared.runs.Ending.{Ending}
 use Rattle.ps_sessions.specs.declared.runs.Ending.TheVariants.{Done, Full}
-use Rattle.ps_sessions.specs.declared.runs.Run.{Run}
-use Rattle.ps_sessions.specs.Runs.{IsRunOf}
+use Rattle.ps_threads.specs.declared.runs.Run.{Run}
+use Rattle.ps_threads.specs.Runs.{IsRunOf}
 use Rattle.pathsum.specs.declared.answer.Answer.TheVariants.{Memory}
 use Rattle.pathsum.specs.declared.scripts.Outcome.{Outcome}
 use Rattle.pathsum.specs.declared.scripts.Outcome.TheVariants.{Hindered, Served}

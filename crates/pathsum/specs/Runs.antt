@@ -10,6 +10,7 @@ use Rattle.ps_history.specs.Matching.{Matched}
 use Rattle.ps_reply.specs.Lines.{journal_text}
 use Rattle.ps_sessions.specs.Lines.{commands_of}
 use Rattle.ps_sessions.specs.Verdicts.{AreJust}
+use Rattle.ps_threads.specs.Runs.{AnswersFirst}
 use Rattle.pathsum.specs.declared.answer.Answer.{Answer}
 use Rattle.pathsum.specs.declared.answer.Answer.TheVariants.{Refused, Read, TooLong, Memory}
 use Rattle.pathsum.specs.Answers.{status_of, text_of}
@@ -27,6 +28,18 @@ pub record Holds (lines : List Line) (journal : List Entry) : Type 0 where
   -- every yes, no and unknown is justified for the two committed versions that its seat had pinned
   pub just : AreJust journal
 
+-- the entries are a legal history, in which the first commands of each session stand once and in order, and no others; one at least is left, and
+-- the history is full
+pub record HoldsFirst (lines : List Line) (journal : List Entry) : Type 0 where
+  pub legal : IsLegal journal
+  pub each : (seat : ℕ) → AnswersFirst (commands_of seat lines) (own_entries seat journal)
+  pub others : (seat : ℕ) → commands_of seat lines ≡ [] → session_entries (own_entries seat journal) ≡ []
+  pub just : AreJust journal
+  pub seat : ℕ
+  pub cut : AnswersFirst (commands_of seat lines) (own_entries seat journal)
+  pub some_left : cut.left ≢ []
+  pub full : 262144 ≤ length journal
+
 -- ---- status 0: the journal holds the commands of the script that was read, and their replies are written
 pub record Headline (told old new : Option (List ℕ)) (journal : List Entry) : Type 0 where
   pub bytes : List ℕ
@@ -36,16 +49,13 @@ pub record Headline (told old new : Option (List ℕ)) (journal : List Entry) : 
   pub holds : Holds lines journal
   pub written : new ≡ append_known old (journal_text journal)
 
--- ---- status 69: it holds those before one of them and is full, and behind their replies the line `full` is written
+-- ---- status 69: it holds the first ones of each session and is full, and behind their replies the line `full` is written
 pub record CutShort (told old new : Option (List ℕ)) (journal : List Entry) : Type 0 where
   pub bytes : List ℕ
-  pub served : List Line
-  pub left : List Line
+  pub lines : List Line
   pub given : Gives told bytes
-  pub script : IsScript bytes (served ++ left)
-  pub some_left : left ≢ []
-  pub holds : Holds served journal
-  pub full : 262144 ≤ length journal
+  pub script : IsScript bytes lines
+  pub holds : HoldsFirst lines journal
   pub written : new ≡ append_known old (journal_text journal ++ codes "full\n")
 
 -- ---- however it ends
@@ -64,8 +74,7 @@ pub data Comes (told : Option (List ℕ)) (reads reads' : ℕ) (journal : List E
   starved : wanted ≡ 70 → text ≡ codes "memory\n" → Comes told reads reads' journal wanted text
   done : (bytes : List ℕ) (lines : List Line) → Gives told bytes → IsScript bytes lines → Holds lines journal → wanted ≡ 0 → text ≡ journal_text journal
       → Comes told reads reads' journal wanted text
-  full : (bytes : List ℕ) (served left : List Line) → Gives told bytes → IsScript bytes (served ++ left) → left ≢ [] → Holds served journal
-      → 262144 ≤ length journal → wanted ≡ 69 → text ≡ journal_text journal ++ codes "full\n" → Comes told reads reads' journal wanted text
+  full : (bytes : List ℕ) (lines : List Line) → Gives told bytes → IsScript bytes lines → HoldsFirst lines journal → wanted ≡ 69 → text ≡ journal_text journal ++ codes "full\n" → Comes told reads reads' journal wanted text
 
 -- the input comes to a status and a text: that was written, or a prefix of it, and then the status is 67
 pub record RunEnds (told : Option (List ℕ)) (reads reads' : ℕ) (old new : Option (List ℕ)) (faults faults' : ℕ) (journal : List Entry) (status : ℕ) : Type 0 where

@@ -39,9 +39,12 @@ use std::env;
 use std::io::ErrorKind;
 use std::process::ExitCode;
 use std::rt::Env;
+use std::sync::Wait;
+use std::thread::Threads;
 
 /// Does what the words say, with the input from the source and what is printed to the sink.
-pub fn run<S: Source, W: Sink, G: Gate + Sync>(
+pub fn run<S: Source, W: Sink, G: Gate + Sync, R: Threads + Wait + Sync>(
+    rt: &R,
     alloc: Global,
     words: &[String],
     source: &mut S,
@@ -63,7 +66,7 @@ pub fn run<S: Source, W: Sink, G: Gate + Sync>(
     // With status 0 all commands of the script are answered, and their replies are written.
     ensures headline { IsRun (map string_bytes words.now) → result.status ≡ 0
         → Headline (S.remaining source.old) (W.held sink.old) (W.held sink.new) result.journal }
-    // With status 69 those before one of them are, and the line `full` is written behind their replies.
+    // With status 69 of each session the first ones are, one at least is left, and the line `full` is written behind the replies.
     ensures cut_short { IsRun (map string_bytes words.now) → result.status ≡ 69
         → CutShort (S.remaining source.old) (W.held sink.old) (W.held sink.new) result.journal }
     // A script with a fault is refused, with that fault.
@@ -82,7 +85,7 @@ pub fn run<S: Source, W: Sink, G: Gate + Sync>(
     ensures legal { IsLegal result.journal }
 {
     if is_run(words) {
-        return script_run(alloc, source, sink, gate);
+        return script_run(rt, alloc, source, sink, gate);
     }
     match generation_of(words) {
         Some(wanted) => gen_run(alloc, wanted.seed, wanted.qubits, wanted.items, sink),
@@ -144,6 +147,6 @@ fn main(rt: HostRuntime) -> ExitCode {
     };
     let mut source = StdSource::new(rt.stdin());
     let mut sink = StdSink::new(rt.stdout());
-    let ended = run(rt.alloc(), &words, &mut source, &mut sink, &OpenGate);
+    let ended = run(&rt, rt.alloc(), &words, &mut source, &mut sink, &OpenGate);
     ExitCode::from(ended.status)
 }

@@ -1,4 +1,4 @@
-//! A script, whose commands are done one after another on the calling thread.
+//! A script, whose sessions are run on threads of their own.
 
 ghost use Rattle.std.specs.Prelude.{◌≡◌, ◌≤◌, length, IfOk, All};
 ghost use Rattle.ps_journal.specs.History.{IsLegal};
@@ -15,20 +15,24 @@ use super::refusals::Refusal;
 use ps_io::{Gate, ReadEnd, Sink, Source, read_all};
 use ps_reply::text;
 use ps_script::{ScriptFault, read};
-use ps_sessions::{Ending, Run, run_alone};
+use ps_sessions::Ending;
+use ps_threads::{Run, run_sessions};
 use std::alloc::{AllocError, Global};
+use std::sync::Wait;
+use std::thread::Threads;
 
 /// What the input comes to.
 #[derive(Drop)]
 pub enum Outcome {
     /// No command is done: the input could not be read or is no script, or memory was wanting.
     Hindered(Answer),
-    /// The commands were done, all of them or up to one.
+    /// The commands were done, of each session all of them or the first ones.
     Served(Run),
 }
 
-/// Reads a script from the source, does its commands, and writes the replies.
-pub fn script_run<S: Source, W: Sink, G: Gate>(
+/// Reads a script from the source, does its commands, those of each session on a thread of its own, and writes the replies.
+pub fn script_run<S: Source, W: Sink, G: Gate + Sync, R: Threads + Wait + Sync>(
+    rt: &R,
     alloc: Global,
     source: &mut S,
     sink: &mut W,
@@ -38,18 +42,23 @@ pub fn script_run<S: Source, W: Sink, G: Gate>(
         (W.held sink.old) (W.held sink.new) (W.faults sink.old) (W.faults sink.new) result.journal result.status }
     ensures legal { IsLegal result.journal }
 {
-    match read_and_serve(alloc, source, gate) {
+    match read_and_serve(rt, alloc, source, gate) {
         Outcome::Hindered(answer) => print(alloc, sink, &answer),
         Outcome::Served(run) => print_run(alloc, sink, run),
     }
 }
 
 // What the source's bytes come to.
-fn read_and_serve<S: Source, G: Gate>(alloc: Global, source: &mut S, gate: &G) -> Outcome
+fn read_and_serve<S: Source, G: Gate + Sync, R: Threads + Wait + Sync>(
+    rt: &R,
+    alloc: Global,
+    source: &mut S,
+    gate: &G,
+) -> Outcome
     ensures { Yields (S.remaining source.old) (S.faults source.old) (S.faults source.new) result }
 {
     match read_all(alloc, source, LONGEST) {
-        Ok(bytes) => serve(alloc, &bytes, gate),
+        Ok(bytes) => serve(rt, alloc, &bytes, gate),
         Err(ReadEnd::Read) => Outcome::Hindered(Answer::Read),
         Err(ReadEnd::TooLong) => Outcome::Hindered(Answer::TooLong),
         Err(ReadEnd::Memory) => Outcome::Hindered(Answer::Memory),
@@ -57,12 +66,17 @@ fn read_and_serve<S: Source, G: Gate>(alloc: Global, source: &mut S, gate: &G) -
 }
 
 // What the bytes of an input come to.
-fn serve<G: Gate>(alloc: Global, bytes: &[u8], gate: &G) -> Outcome
+fn serve<G: Gate + Sync, R: Threads + Wait + Sync>(
+    rt: &R,
+    alloc: Global,
+    bytes: &[u8],
+    gate: &G,
+) -> Outcome
     requires { length bytes.now ≤ 16777216 }
     ensures { YieldsOf bytes.now result }
 {
     match read(alloc, bytes) {
-        Ok(script) => match run_alone(alloc, script, gate) {
+        Ok(script) => match run_sessions(rt, alloc, script, gate) {
             Ok(run) => Outcome::Served(run),
             Err(AllocError) => Outcome::Hindered(Answer::Memory),
         },

@@ -1,7 +1,9 @@
 use super::run;
 use ps_io::{MemorySink, MemorySource, OpenGate};
 use std::alloc::{AllocError, Global};
+use std::sync::Wait;
 use std::test::Fail;
+use std::thread::Threads;
 
 // What a call over memory reads, which of its reads and writes fail, and how it must end.
 #[derive(Clone, Copy)]
@@ -15,7 +17,7 @@ struct Row<'a> {
 }
 
 // Whether the call ends so.
-fn ends_so(alloc: Global, row: &Row) -> Result<bool, AllocError> {
+fn ends_so<R: Threads + Wait + Sync>(rt: &R, alloc: Global, row: &Row) -> Result<bool, AllocError> {
     let mut words = Vec::new(alloc);
     for word in row.words {
         words.push(String::from_str(alloc, word)?)?;
@@ -30,7 +32,7 @@ fn ends_so(alloc: Global, row: &Row) -> Result<bool, AllocError> {
     }
     let mut source = MemorySource::new(row.input.to_vec(alloc)?, 11, reads);
     let mut sink = MemorySink::new(vec![in alloc; 0; 512]?, writes);
-    let ended = run(alloc, &words, &mut source, &mut sink, &OpenGate);
+    let ended = run(rt, alloc, &words, &mut source, &mut sink, &OpenGate);
     Ok(ended.status == row.status && sink.held() == row.printed)
 }
 
@@ -99,7 +101,7 @@ fn texts_with_the_library_are_answered(rt: HostRuntime) -> Result<(), Fail> {
     ];
     for (qubits, first, second, status, printed) in rows {
         let input = pair(alloc, qubits, first, second)?;
-        assert!(rt; ends_so(alloc, &same(input.as_bytes(), status, printed))?);
+        assert!(rt; ends_so(&rt, alloc, &same(input.as_bytes(), status, printed))?);
     }
     Ok(())
 }
@@ -127,6 +129,7 @@ fn texts_are_compared_up_to_a_phase(rt: HostRuntime) -> Result<(), Fail> {
         let input = pair(alloc, 1, first, second)?;
         assert!(rt;
             ends_so(
+                &rt,
                 alloc,
                 &told(&["same", "phase"], input.as_bytes(), status, printed)
             )?
@@ -143,7 +146,7 @@ fn a_realistic_pair_is_answered(rt: HostRuntime) -> Result<(), Fail> {
     let second =
         "h q[2];\ncu1(pi/2) q[1],q[2];\nh q[1];\ncu1(pi/4) q[0],q[2];\ncu1(pi/2) q[0],q[1];\nh q[0];\nswap q[0],q[2];\n";
     let input = pair(alloc, 3, first, second)?;
-    assert!(rt; ends_so(alloc, &same(input.as_bytes(), 0, b"yes\n"))?);
+    assert!(rt; ends_so(&rt, alloc, &same(input.as_bytes(), 0, b"yes\n"))?);
     Ok(())
 }
 
@@ -217,6 +220,7 @@ fn edits_are_answered(rt: HostRuntime) -> Result<(), Fail> {
         let input = pair(alloc, qubits, first, second)?;
         assert!(rt;
             ends_so(
+                &rt,
                 alloc,
                 &told(&["same", "local"], input.as_bytes(), status, printed)
             )?
@@ -236,6 +240,7 @@ fn limits_are_told(rt: HostRuntime) -> Result<(), Fail> {
     let terms = pair(alloc, 64, flips.as_str(), "")?;
     assert!(rt;
         ends_so(
+            &rt,
             alloc,
             &same(terms.as_bytes(), 2, b"unknown passed terms 679120\n")
         )?
@@ -247,6 +252,7 @@ fn limits_are_told(rt: HostRuntime) -> Result<(), Fail> {
     let variables = pair(alloc, 64, layers.as_str(), "")?;
     assert!(rt;
         ends_so(
+            &rt,
             alloc,
             &same(variables.as_bytes(), 2, b"unknown passed variables 513\n")
         )?
@@ -293,7 +299,7 @@ fn texts_without_the_library_are_answered(rt: HostRuntime) -> Result<(), Fail> {
         ),
     ];
     for row in &rows {
-        assert!(rt; ends_so(rt.alloc(), row)?);
+        assert!(rt; ends_so(&rt, rt.alloc(), row)?);
     }
     Ok(())
 }
@@ -331,7 +337,7 @@ fn refusals_are_told(rt: HostRuntime) -> Result<(), Fail> {
         ),
     ];
     for row in &rows {
-        assert!(rt; ends_so(rt.alloc(), row)?);
+        assert!(rt; ends_so(&rt, rt.alloc(), row)?);
     }
     Ok(())
 }
@@ -351,7 +357,7 @@ fn separators_are_found(rt: HostRuntime) -> Result<(), Fail> {
     ];
     for (between, second, status, printed) in rows {
         let input = format!(in alloc; "{text}{between}{second}")?;
-        assert!(rt; ends_so(alloc, &same(input.as_bytes(), status, printed))?);
+        assert!(rt; ends_so(&rt, alloc, &same(input.as_bytes(), status, printed))?);
     }
     Ok(())
 }
@@ -365,12 +371,13 @@ fn derivations_are_printed(rt: HostRuntime) -> Result<(), Fail> {
     let yes = pair(alloc, 1, "h q[0];\nh q[0];\n", "")?;
     assert!(rt;
         ends_so(
+            &rt,
             alloc,
             &told(&["prove"], yes.as_bytes(), 0, DERIVATION.as_bytes())
         )?
     );
     let no = pair(alloc, 1, "x q[0];\n", "")?;
-    assert!(rt; ends_so(alloc, &told(&["prove"], no.as_bytes(), 1, b"no 0\n"))?);
+    assert!(rt; ends_so(&rt, alloc, &told(&["prove"], no.as_bytes(), 1, b"no 0\n"))?);
     Ok(())
 }
 
@@ -427,7 +434,13 @@ fn derivations_are_replayed(rt: HostRuntime) -> Result<(), Fail> {
     for (first, document, status, printed) in rows {
         let texts = pair(alloc, 1, first, "")?;
         let input = format!(in alloc; "{texts}====\n{document}")?;
-        assert!(rt; ends_so(alloc, &told(&["replay"], input.as_bytes(), status, printed))?);
+        assert!(rt;
+            ends_so(
+                &rt,
+                alloc,
+                &told(&["replay"], input.as_bytes(), status, printed)
+            )?
+        );
     }
     Ok(())
 }
@@ -456,7 +469,7 @@ fn words_and_faults_of_the_outside_are_told(rt: HostRuntime) -> Result<(), Fail>
         told(&["run", "17"], b"", 64, b"words\n"),
     ];
     for row in &rows {
-        assert!(rt; ends_so(rt.alloc(), row)?);
+        assert!(rt; ends_so(&rt, rt.alloc(), row)?);
     }
     Ok(())
 }
@@ -465,9 +478,15 @@ fn words_and_faults_of_the_outside_are_told(rt: HostRuntime) -> Result<(), Fail>
 fn long_input_is_told(rt: HostRuntime) -> Result<(), Fail> {
     let alloc = rt.alloc();
     let longest = vec![in alloc; b' '; 16_777_216]?;
-    assert!(rt; ends_so(alloc, &same(&longest, 65, b"input Separator 1:16777217\n"))?);
+    assert!(rt;
+        ends_so(
+            &rt,
+            alloc,
+            &same(&longest, 65, b"input Separator 1:16777217\n")
+        )?
+    );
     let longer = vec![in alloc; b' '; 16_777_217]?;
-    assert!(rt; ends_so(alloc, &same(&longer, 68, b"too long\n"))?);
+    assert!(rt; ends_so(&rt, alloc, &same(&longer, 68, b"too long\n"))?);
     Ok(())
 }
 
@@ -489,17 +508,24 @@ fn scripts_are_served(rt: HostRuntime) -> Result<(), Fail> {
     let answered = format!(in alloc;
         "0 opened 1 missing 1\n0 opened 1 missing 0\n0 yes\n0 sum k=0 m=0 P=0 f=x0\n0 proof 11\n{DERIVATION}0 opened 1 missing 0\n0 widths 1 2\n"
     )?;
-    assert!(rt; ends_so(alloc, &script(asked.as_bytes(), 0, answered.as_bytes()))?);
+    assert!(rt;
+        ends_so(
+            &rt,
+            alloc,
+            &script(asked.as_bytes(), 0, answered.as_bytes())
+        )?
+    );
     let turned = format!(in alloc;
-        "{PLUS}4 ask phase a 1 b 1\n15 splice a 1 2 2\nt q[0];\n.\n4 ask a 1 a 2\n15 retire a 1\n4 ask a 1 a 2\n"
+        "{PLUS}0 ask phase a 1 b 1\n0 splice a 1 2 2\nt q[0];\n.\n0 ask a 1 a 2\n0 retire a 1\n0 ask a 1 a 2\n"
     )?;
     assert!(rt;
         ends_so(
+            &rt,
             alloc,
             &script(
                 turned.as_bytes(),
                 0,
-                b"0 opened 1 missing 1\n0 opened 1 missing 0\n4 yes phase 0\n15 committed 2 missing 1\n4 no 1\n15 retired\n4 was retired 13\n"
+                b"0 opened 1 missing 1\n0 opened 1 missing 0\n0 yes phase 0\n0 committed 2 missing 1\n0 no 1\n0 retired\n0 was retired 13\n"
             )
         )?
     );
@@ -515,7 +541,7 @@ fn scripts_are_refused(rt: HostRuntime) -> Result<(), Fail> {
         script(b"16 show g 1\n", 65, b"input Session 1:1\n"),
         script(b"0 show g 1\n0 show g\n", 65, b"input Form 2:1\n"),
         script(b"\n#\n0 open g\n", 65, b"input Block 3:1\n"),
-        script(b"3 show g 1\n", 0, b"3 no circuit\n"),
+        script(b"15 show g 1\n", 0, b"15 no circuit\n"),
         Row {
             failing_read: Some(1),
             ..script(b"0 show g 1\n0 show g 1\n", 66, b"read\n")
@@ -526,7 +552,7 @@ fn scripts_are_refused(rt: HostRuntime) -> Result<(), Fail> {
         },
     ];
     for row in &rows {
-        assert!(rt; ends_so(rt.alloc(), row)?);
+        assert!(rt; ends_so(&rt, rt.alloc(), row)?);
     }
     Ok(())
 }
@@ -576,7 +602,7 @@ fn full_journals_are_told(rt: HostRuntime) -> Result<(), Fail> {
     words.push(String::from_str(alloc, "0")?)?;
     let mut source = MemorySource::new(input, 16_384, Vec::new(alloc));
     let mut sink = MemorySink::new(vec![in alloc; 0; 4_194_304]?, Vec::new(alloc));
-    let ended = run(alloc, &words, &mut source, &mut sink, &OpenGate);
+    let ended = run(&rt, alloc, &words, &mut source, &mut sink, &OpenGate);
     assert_eq!(rt; ended.status, 69);
     assert_eq!(rt; ended.journal.as_slice().len(), 262_144);
     assert!(rt; sink.held() == printed.as_slice());

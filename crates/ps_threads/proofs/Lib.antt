@@ -1,0 +1,7 @@
+pub mod TurnLaws
+pub mod ServedLaws
+pub mod ListLaws
+pub mod CrewLaws
+pub mod DealLaws
+pub mod SeatLaws
+pub mod RunLaws

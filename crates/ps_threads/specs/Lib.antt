@@ -1,0 +1,4 @@
+pub mod Seated
+pub mod Served
+pub mod Lent
+pub mod Runs

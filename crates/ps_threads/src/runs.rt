@@ -1,0 +1,59 @@
+//! The run of a script, with its sessions beside each other.
+ghost use Rattle.std.specs.Prelude.{◌≡◌, IfOk, IfErr};
+ghost use Rattle.ps_threads.specs.Runs.{IsRunOf};
+
+use crate::crew::sessions;
+use crate::dealing::{SESSIONS, deal};
+use crate::seats::{seat_all, take_back};
+use crate::tidings::Tidings;
+use ps_book::Book;
+use ps_desk::Desk;
+use ps_io::Gate;
+use ps_script::Script;
+use ps_sessions::{Ending, Journal};
+use std::alloc::{AllocError, Global};
+use std::sync::Wait;
+use std::thread::Threads;
+
+/// How many seats a desk has: one for each session, for the calling thread, and for up to 16 workers.
+const SEATS: u32 = 33;
+
+/// The run of a script: all turns that were taken, and how it ended.
+#[derive(Drop)]
+pub struct Run {
+    pub journal: Journal,
+    /// `Full` where a command of some session is not answered, with a ticket that was refused.
+    pub ending: Ending,
+}
+
+/// Does the commands of the script, those of each session on a thread of its own, all at one desk. The seat of session s
+/// has the number s + 1. A session whose thread can't be started is run by the calling thread.
+///
+/// `AllocError` is want of memory before the first turn.
+pub fn run_sessions<G: Gate + Sync, R: Threads + Wait + Sync>(
+    rt: &R,
+    alloc: Global,
+    script: Script,
+    gate: &G,
+) -> Result<Run, AllocError>
+    ensures { IfOk result (λ r. IsRunOf script.lines r) }
+{
+    let dealt = deal(alloc, script.lines.into_vec())?;
+    let jobs = Vec::with_capacity(alloc, SESSIONS as usize)?;
+    let done = Vec::with_capacity(alloc, SESSIONS as usize)?;
+    let book = Book::new(alloc)?;
+    let Ok((desk, mut first)) = Desk::new(alloc, book, SEATS) else {
+        return Err(AllocError);
+    };
+    let jobs = seat_all(&desk, &mut first, dealt, jobs);
+    let tidings = Tidings::new();
+    let done = sessions(rt, alloc, &desk, &tidings, gate, jobs, done);
+    let ending = take_back(&desk, &mut first, done);
+    let Ok(book) = desk.close(first) else {
+        unreachable!()
+    };
+    Ok(Run {
+        journal: Journal::from_vec(book.into_journal()),
+        ending,
+    })
+}

@@ -1,0 +1,69 @@
+//! Seats for all sessions, and all seats back.
+ghost use Rattle.std.specs.Prelude.{◌≡◌, ℕ, ◌+◌, ◌<◌, ◌≤◌, List, [], length, vec_len, vec_capacity};
+ghost use Rattle.ps_script.specs.declared.script.Line.{Line};
+ghost use Rattle.ps_desk.specs.Seats.{IsSeatOf, desk_of, view_of};
+ghost use Rattle.ps_threads.specs.Served.{AreDealt, AreJobs, AreBack, AllServe, first_full};
+ghost use Rattle.ps_threads.specs.Lent.{Lends, Came};
+
+use crate::parts::{Finished, Job};
+use ps_book::Book;
+use ps_desk::{Desk, Seat};
+use ps_script::Command;
+use ps_sessions::Ending;
+
+/// Splits off a seat for each session, with the numbers from 1 on.
+pub fn seat_all(
+    desk: &Desk<Book>,
+    first: &mut Seat<Book>,
+    dealt: Vec<Vec<Command>>,
+    jobs: Vec<Job>,
+) -> Vec<Job>
+    requires desk { IsSeatOf desk.now first.old }
+    requires new { Lends (view_of first.old) 1 }
+    requires spare { ((view_of first.old).next ≡ 1) × (vec_len dealt < (view_of first.old).end) }
+    requires none { jobs.items ≡ [] }
+    requires room { vec_len dealt ≤ vec_capacity jobs }
+    ensures desk { desk_of first.new ≡ desk_of first.old }
+    ensures ended { (view_of first.new).ended ≡ (view_of first.old).ended }
+    ensures lends { Lends (view_of first.new) (vec_len dealt + 1) }
+    ensures len { vec_len result ≡ vec_len dealt }
+    ensures jobs { (lines : List Line) → AreDealt lines dealt.items → AreJobs lines (desk_of first.old) result.items }
+{
+    let mut jobs = jobs;
+    for commands in dealt {
+        let Ok(seat) = desk.split(first) else {
+            unreachable!()
+        };
+        jobs.push_reserved(Job { seat, commands });
+    }
+    jobs
+}
+
+/// The first of two endings that is no `Done`.
+fn earlier(one: Ending, other: Ending) -> Ending
+    ensures { result ≡ first_full one other }
+{
+    match one {
+        Ending::Done => other,
+        Ending::Full { .. } => one,
+    }
+}
+
+/// Takes all seats back, and tells how the sessions ended: `Full` where one of them did.
+pub fn take_back(desk: &Desk<Book>, first: &mut Seat<Book>, done: Vec<Finished>) -> Ending
+    requires desk { IsSeatOf desk.now first.old }
+    requires lends { Lends (view_of first.old) (vec_len done + 1) × ((view_of first.old).ended ≡ []) }
+    requires done { AreBack (desk_of first.old) done.items }
+    ensures desk { desk_of first.new ≡ desk_of first.old }
+    ensures lends { Lends (view_of first.new) 1 }
+    ensures len { length (view_of first.new).ended ≡ vec_len done }
+    ensures came { (lines : List Line) → AllServe lines done.items → Came lines (vec_len done) result (view_of first.new).ended }
+{
+    let mut done = done;
+    let mut ending = Ending::Done;
+    while let Some(finished) = done.pop() {
+        desk.join(first, finished.seat);
+        ending = earlier(ending, finished.ending);
+    }
+    ending
+}
