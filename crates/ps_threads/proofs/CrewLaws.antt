@@ -4,14 +4,14 @@ use Rattle.ps_desk.specs.declared.seat.Desk.{Desk}
 use Rattle.ps_desk.specs.Seats.{IsSeatOf}
 use Rattle.ps_journal.specs.declared.commands.Cmd.{Cmd}
 use Rattle.ps_journal.specs.declared.replies.Reply.{Reply}
-use Rattle.ps_book.specs.declared.book.Book.{Book}
+use Rattle.ps_threads.specs.declared.held.Held.{Held}
 use Rattle.ps_threads.specs.declared.parts.Job.{Job}
 use Rattle.ps_threads.specs.declared.parts.Finished.{Finished}
 use Rattle.ps_threads.specs.Seated.{IsFresh}
 use Rattle.ps_threads.specs.Served.{IsServedBy, JobsAt, AreServed}
 use Rattle.ps_threads.proofs.ListLaws.{front_at, last_at, side_more}
 
-module _ (desk : Desk Book Cmd Reply) (rest jobs : List Job) (job : Job) (is : jobs ≡ rest ++ job ∷ []) (all : JobsAt desk jobs) where
+module _ (desk : Desk Held Cmd Reply) (rest jobs : List Job) (job : Job) (is : jobs ≡ rest ++ job ∷ []) (all : JobsAt desk jobs) where
   pub last_job : IsSeatOf desk job.seat × IsFresh job.seat
   last_job = all (length rest) job (last_at rest jobs job is)
 

@@ -18,7 +18,7 @@ use Rattle.ps_journal.specs.declared.commands.Cmd.{Cmd}
 use Rattle.ps_journal.specs.declared.replies.Reply.{Reply}
 use Rattle.ps_journal.specs.History.{Entry, IsLegal, own_entries}
 use Rattle.ps_history.specs.Matching.{Matched, nothing}
-use Rattle.ps_book.specs.declared.book.Book.{Book}
+use Rattle.ps_threads.specs.declared.held.Held.{Held}
 use Rattle.ps_sessions.specs.declared.runs.Ending.{Ending}
 use Rattle.ps_sessions.specs.declared.runs.Ending.TheVariants.{Done, Full}
 use Rattle.ps_sessions.specs.Lines.{seat_of, commands_of}
@@ -32,7 +32,7 @@ use Rattle.ps_threads.specs.Runs.{AnswersFirst, IsCutShort, IsRunOf}
 use Rattle.ps_threads.proofs.ListLaws.{there, within, at_index}
 
 -- ---- the jobs, and what became of them
-pub jobs_at : (lines : List Line) (desk : Desk Book Cmd Reply) (table : TableId) (jobs : List Job) → table ≡ desk.table.shared.table_id → AreJobs lines table jobs
+pub jobs_at : (lines : List Line) (desk : Desk Held Cmd Reply) (table : TableId) (jobs : List Job) → table ≡ desk.table.shared.table_id → AreJobs lines table jobs
     → JobsAt desk jobs
 jobs_at lines desk table jobs here are k j e = let a = are k j e in (a.desk_is ∙ here, a.fresh)
 

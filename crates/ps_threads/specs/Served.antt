@@ -16,7 +16,7 @@ use Rattle.ps_journal.specs.declared.commands.Cmd.{Cmd}
 use Rattle.ps_journal.specs.declared.replies.Reply.{Reply}
 use Rattle.ps_journal.specs.History.{Entry}
 use Rattle.ps_history.specs.Matching.{Matched}
-use Rattle.ps_book.specs.declared.book.Book.{Book}
+use Rattle.ps_threads.specs.declared.held.Held.{Held}
 use Rattle.ps_sessions.specs.declared.runs.Ending.{Ending}
 use Rattle.ps_sessions.specs.declared.runs.Ending.TheVariants.{Done, Full}
 use Rattle.ps_sessions.specs.Lines.{commands_of}
@@ -48,7 +48,7 @@ module _ {O P : Type 0} {o : Ghosts O Cmd Reply} {p : Ghosts P Cmd Reply} where
     pub serves : Serves commands (view_of new).own (view_of new).refused ending
 
 -- ---- all sessions
-abbrev pub JobsAt : Desk Book Cmd Reply → List Job → Type 0
+abbrev pub JobsAt : Desk Held Cmd Reply → List Job → Type 0
 JobsAt desk jobs = (k : ℕ) (j : Job) → get_elem? jobs k ≡ some j → IsSeatOf desk j.seat × IsFresh j.seat
 
 -- what the jobs became

@@ -5,10 +5,10 @@ ghost use Rattle.ps_desk.specs.Seats.{IsSeatOf};
 ghost use Rattle.ps_threads.specs.Seated.{IsFresh};
 ghost use Rattle.ps_threads.specs.Served.{IsServedBy, JobsAt, AreServed};
 
+use crate::held::Held;
 use crate::parts::{Finished, Job};
 use crate::serving::serve;
 use crate::tidings::Tidings;
-use ps_book::Book;
 use ps_desk::Desk;
 use ps_io::Gate;
 use std::alloc::Global;
@@ -21,7 +21,7 @@ use std::thread::{Threads, join};
 pub fn sessions<G: Gate + Sync, R: Threads + Wait + Sync>(
     rt: &R,
     alloc: Global,
-    desk: &Desk<Book>,
+    desk: &Desk<Held>,
     tidings: &Tidings,
     gate: &G,
     jobs: Vec<Job>,

@@ -3,6 +3,7 @@
 
 pub mod crew;
 pub mod dealing;
+pub mod held;
 pub mod parts;
 pub mod runs;
 pub mod seated;

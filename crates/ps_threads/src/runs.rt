@@ -4,6 +4,7 @@ ghost use Rattle.ps_threads.specs.Runs.{IsRunOf};
 
 use crate::crew::sessions;
 use crate::dealing::{SESSIONS, deal};
+use crate::held::Held;
 use crate::seats::{seat_all, take_back};
 use crate::tidings::Tidings;
 use ps_book::Book;
@@ -41,19 +42,19 @@ pub fn run_sessions<G: Gate + Sync, R: Threads + Wait + Sync>(
     let dealt = deal(alloc, script.lines.into_vec())?;
     let jobs = Vec::with_capacity(alloc, SESSIONS as usize)?;
     let done = Vec::with_capacity(alloc, SESSIONS as usize)?;
-    let book = Book::new(alloc)?;
-    let Ok((desk, mut first)) = Desk::new(alloc, book, SEATS) else {
+    let book = Box::new(alloc, Book::new(alloc)?)?;
+    let Ok((desk, mut first)) = Desk::new(alloc, Held { book }, SEATS) else {
         return Err(AllocError);
     };
     let jobs = seat_all(&desk, &mut first, dealt, jobs);
     let tidings = Tidings::new();
     let done = sessions(rt, alloc, &desk, &tidings, gate, jobs, done);
     let ending = take_back(&desk, &mut first, done);
-    let Ok(book) = desk.close(first) else {
+    let Ok(held) = desk.close(first) else {
         unreachable!()
     };
     Ok(Run {
-        journal: Journal::from_vec(book.into_journal()),
+        journal: Journal::from_vec(Box::into_inner(held.book).into_journal()),
         ending,
     })
 }

@@ -2,7 +2,7 @@
 ghost use Rattle.std.specs.Prelude.{◌≡◌};
 ghost use Rattle.ps_desk.specs.Seats.{IsSeatOf};
 
-use ps_book::Book;
+use crate::held::Held;
 use ps_calls::Turns;
 use ps_desk::{Desk, Full, Seat};
 use ps_journal::{Cmd, Reply};
@@ -12,14 +12,14 @@ use std::sync::Wait;
 #[derive(Drop)]
 pub struct Session<'a, R: Wait> {
     pub rt: &'a R,
-    pub desk: &'a Desk<Book>,
-    pub seat: Seat<Book>,
+    pub desk: &'a Desk<Held>,
+    pub seat: Seat<Held>,
     pub ghost at: { IsSeatOf desk.now seat },
 }
 
 impl<'a, R: Wait> Session<'a, R> {
     /// A session on this seat, which is one of the desk.
-    pub fn new(rt: &'a R, desk: &'a Desk<Book>, seat: Seat<Book>) -> Session<'a, R>
+    pub fn new(rt: &'a R, desk: &'a Desk<Held>, seat: Seat<Held>) -> Session<'a, R>
         requires { IsSeatOf desk.now seat }
         ensures { result.seat ≡ seat }
     {
@@ -27,7 +27,7 @@ impl<'a, R: Wait> Session<'a, R> {
     }
 
     /// The seat, after its last turn.
-    pub fn finish(self) -> Seat<Book>
+    pub fn finish(self) -> Seat<Held>
         ensures { result ≡ self.entry.seat }
     {
         let Session {

@@ -5,16 +5,16 @@ ghost use Rattle.ps_desk.specs.Seats.{IsSeatOf, desk_of, view_of};
 ghost use Rattle.ps_threads.specs.Served.{AreDealt, AreJobs, AreBack, AllServe, first_full};
 ghost use Rattle.ps_threads.specs.Lent.{Lends, Came};
 
+use crate::held::Held;
 use crate::parts::{Finished, Job};
-use ps_book::Book;
 use ps_desk::{Desk, Seat};
 use ps_script::Command;
 use ps_sessions::Ending;
 
 /// Splits off a seat for each session, with the numbers from 1 on.
 pub fn seat_all(
-    desk: &Desk<Book>,
-    first: &mut Seat<Book>,
+    desk: &Desk<Held>,
+    first: &mut Seat<Held>,
     dealt: Vec<Vec<Command>>,
     jobs: Vec<Job>,
 ) -> Vec<Job>
@@ -50,7 +50,7 @@ fn earlier(one: Ending, other: Ending) -> Ending
 }
 
 /// Takes all seats back, and tells how the sessions ended: `Full` where one of them did.
-pub fn take_back(desk: &Desk<Book>, first: &mut Seat<Book>, done: Vec<Finished>) -> Ending
+pub fn take_back(desk: &Desk<Held>, first: &mut Seat<Held>, done: Vec<Finished>) -> Ending
     requires desk { IsSeatOf desk.now first.old }
     requires lends { Lends (view_of first.old) (vec_len done + 1) × ((view_of first.old).ended ≡ []) }
     requires done { AreBack (desk_of first.old) done.items }

@@ -4,10 +4,10 @@ ghost use Rattle.ps_desk.specs.Seats.{IsSeatOf};
 ghost use Rattle.ps_threads.specs.Seated.{IsFresh};
 ghost use Rattle.ps_threads.specs.Served.{IsServedBy};
 
+use crate::held::Held;
 use crate::parts::{Finished, Job};
 use crate::seated::Session;
 use crate::tidings::Tidings;
-use ps_book::Book;
 use ps_calls::{Turns, command};
 use ps_desk::Desk;
 use ps_io::{Gate, Point};
@@ -20,7 +20,7 @@ use std::sync::Wait;
 pub fn serve<G: Gate, R: Wait>(
     rt: &R,
     alloc: Global,
-    desk: &Desk<Book>,
+    desk: &Desk<Held>,
     tidings: &Tidings,
     gate: &G,
     job: Job,

@@ -1,4 +1,4 @@
-use Rattle.std.proofs.Common.{◌≡◌, length, refl, sym, ◌∙◌, subst, vec_len, arith}
+use Rattle.std.proofs.Common.{rules, ◌≡◌, length, refl, sym, ap, ◌∙◌, subst, vec_len, arith}
 use Rattle.ps_desk.specs.Seats.{desk_of, view_of}
 use Rattle.ps_book.specs.Books.{entries}
 use Rattle.ps_threads.specs.Served.{AreBack}
@@ -33,7 +33,8 @@ returns g c =
     let count : vec_len c.sessions-done.result ≡ 16 = c.sessions-done.ensures.len ∙ c.seat_all-jobs.ensures.len ∙ c.in_ok-dealt.ensures.len in
     let v = view_of c.take_back-ending.new.first in
     let back = c.take_back-ending.ensures in
+    let inner : c.into_inner.result ≡ c.in-Ok-close.held.book.value = search rules in
     subst (λ ls. IsRunOf ls record { journal = c.from_vec.result; ending = c.take_back-ending.result }) c.into_vec.ensures
-    (run_is lines v (entries c.in-Ok-close.book) c.in-Ok-close.ensures.closed back.lends.own c.take_back-ending.result
+    (run_is lines v (entries c.in-Ok-close.held.book.value) c.in-Ok-close.ensures.closed back.lends.own c.take_back-ending.result
     (subst (λ n. Came lines n c.take_back-ending.result v.ended) count (back.came lines serve)) (back.len ∙ count)
-    record { journal = c.from_vec.result; ending = c.take_back-ending.result } (c.from_vec.ensures ∙ c.into_journal.ensures.value) refl)
+    record { journal = c.from_vec.result; ending = c.take_back-ending.result } (c.from_vec.ensures ∙ c.into_journal.ensures.value ∙ ap entries inner) refl)
