@@ -167,10 +167,12 @@ not_one_differs {n} {A} {B} {p} {S1} {S2} {S} {R} x v l m h =
 filled_differs : {n : ℕ} {A B : List Prim} {p : Pattern} {S1 S2 S R T : PathSum} {ss : List Step} (bits at : List ℕ) → Fixed n A B p S1 S2 S R → Reduces R ss T → IsFilled p bits at → ¬ (IsOne (path_values T) (point T.n bits)) → Matches p (point n at) × DiffersAt n A B (point n at)
 filled_differs {n} {A} {B} {p} {S1} {S2} {S} {R} {T} bits at v r f h =
     let tn : T.n ≡ n = reduces_n r ∙ start_n v in
-    let m = filled_matches p n bits at v.len f in
-    (m, not_one_differs (point n at) v (taken_long n 0 (λ u. stands u at)) m
-    (λ one. subst (λ k. ¬ (IsOne (path_values T) (point k bits))) tn h
-    (one_after (point n bits) r (taken_long n 0 (λ u. stands u bits) ∙ sym (start_n v)) (count_one (path_values R) (path_values R) (point n at) (point n bits) refl (λ j. sym (filled_count p S R n bits at v.restricted f j)) one))))
+    let m = filled_matches p n bits at v.len f in (
+      m,
+      not_one_differs (point n at) v (taken_long n 0 (λ u. stands u at)) m
+          (λ one. subst (λ k. ¬ (IsOne (path_values T) (point k bits))) tn h
+          (one_after (point n bits) r (taken_long n 0 (λ u. stands u bits) ∙ sym (start_n v)) (count_one (path_values R) (path_values R) (point n at) (point n bits) refl (λ j. sym (filled_count p S R n bits at v.restricted f j)) one))),
+    )
 
 at_differs : {n : ℕ} {A B : List Prim} {p : Pattern} {S1 S2 S R T : PathSum} {ss : List Step} (at : List ℕ) → Fixed n A B p S1 S2 S R → Reduces R ss T → Matches p (point T.n at) → ¬ (IsOne (path_values T) (point T.n at)) → Matches p (point n at) × DiffersAt n A B (point n at)
 at_differs {n} {A} {B} {p} {S1} {S2} {S} {R} {T} at v r m h =

@@ -167,9 +167,9 @@ unfolding listing worth
 spread_half m old low high sum low' high' new eo el fs tl th en =
     let left : (y : Truths) → length y ≡ m → worth y (low ++ high) 0 ≡ worth y low 0 = λ y l. worth_left y low high 0 (let e : 2 ^ length y ≡ 2 ^ m = ap (λ n. 2 ^ n) l in omega (arith, e, el)) in
     let right : (y : Truths) → length y ≡ m → worth y (low ++ high) (0 + 2 ^ length y) ≡ worth y high 0 = λ y l.
-        (let e : 2 ^ length y ≡ 2 ^ m = ap (λ n. 2 ^ n) l in
-        let i : 0 + 2 ^ length y ≡ length low + 0 = omega (arith, e, el) in
-        ap (λ n. worth y (low ++ high) n) i ∙ worth_right y low high 0) in
+    (let e : 2 ^ length y ≡ 2 ^ m = ap (λ n. 2 ^ n) l in
+    let i : 0 + 2 ^ length y ≡ length low + 0 = omega (arith, e, el) in
+    ap (λ n. worth y (low ++ high) n) i ∙ worth_right y low high 0) in
     ap reduced en ∙ reduced_append low' high' ∙ ap₂ (λ (r t : List ℕ). r ++ t)
     (tl ∙ listing_ext m _ _ (λ y l. sym (ap (λ (r : List ℕ). (worth y r 0 + times false (worth y r (0 + 2 ^ length y))) % 4294967296) eo ∙ by_low (worth y (low ++ high) 0) (worth y (low ++ high) (0 + 2 ^ length y)) ∙ ap (λ r. r % 4294967296) (left y l))))
     (th ∙ listing_ext m _ _ (λ y l. sym (ap (λ (r : List ℕ). (worth y r 0 + times true (worth y r (0 + 2 ^ length y))) % 4294967296) eo ∙ ap₂ (λ p q. (p + times true q) % 4294967296) (left y l) (right y l) ∙ by_high (worth y low 0) (worth y high 0) (worth y sum 0) (worth_added y high low sum 0 (λ i. mod_sum i)))))

@@ -18,4 +18,4 @@ pub returns : goal.returns
 returns c =
     let back = written_back c.in_ok-table.table.len c.spread.new.table c.in_ok-table.table.items (c.spread.auto.table ∙ ap length c.deref_mut.ensures.value) (sym c.deref_mut.ensures.len ∙ ap length c.deref_mut.ensures.value) in
     λ j. table_counts c.args.sum.now c.args.at.now c.all_paths-all.result c.deref.result.now c.in_ok-table.table.items c.spread.new.table c.terms.result.now c.requires.closed (c.deref.ensures.value ∙ c.in_ok-names.ensures.names) c.terms.ensures.value c.all_paths-all.ensures
-        c.in_ok-table.ensures.worth (c.spread.ensures ∙ ap (λ (r : List ℕ). listing c.args.sum.now.m (λ y. worth y r 0)) c.deref_mut.ensures.value) j ∙ sym (ap (λ (r : List ℕ). tallied r j) back)
+    c.in_ok-table.ensures.worth (c.spread.ensures ∙ ap (λ (r : List ℕ). listing c.args.sum.now.m (λ y. worth y r 0)) c.deref_mut.ensures.value) j ∙ sym (ap (λ (r : List ℕ). tallied r j) back)
