@@ -1,10 +1,10 @@
 -- Tables of phases, and what they count to.
-use Rattle.std.proofs.Common.{◌≡◌, ◌≢◌, ℕ, zero, suc, ◌+◌, ◌-◌, ◌*◌, ◌/◌, ◌%◌, ◌^◌, ◌<◌, ◌≤◌, refl, ap, ap₂, sym, ◌∙◌, subst, arith, Bool, true, false, ◌&&◌, ◌||◌, cond, nat_eq, List, [], ◌∷◌, ◌++◌, length, take, drop, get_or, set, length-append, ◌⊎◌, inl, inr}
+use Rattle.std.proofs.Common.{◌≡◌, ◌≢◌, ℕ, zero, suc, ◌+◌, ◌-◌, ◌*◌, ◌%◌, ◌^◌, ◌<◌, ◌≤◌, refl, ap, ap₂, sym, ◌∙◌, subst, arith, Bool, true, false, ◌&&◌, ◌||◌, cond, nat_eq, List, [], ◌∷◌, ◌++◌, length, take, get_or, set, length-append, ◌⊎◌, inl, inr}
 use Rattle.std.proofs.Math.IntN.{ℤ, pos, ◌+ℤ◌, ◌-ℤ◌}
 use Rattle.std.proofs.lemmas.Int.{ints}
 use Rattle.std.proofs.lemmas.Bool.Decides.{nat_tests}
 use Rattle.std.proofs.lemmas.Nat.{pow_below}
-use Rattle.std.proofs.lemmas.List.{get_or_append_left, get_or-append-add, get_or-set_same, get_or-set_other, take_more, take_all, length-set, get_or_default}
+use Rattle.std.proofs.lemmas.List.{get_or_append_left, get_or-append-add, get_or-set_same, get_or-set_other, take_all, length-set, get_or_default}
 use Rattle.std.specs.Prelude.{nat_lt}
 use Rattle.ps_ring.specs.Truths.{Truths, bit, same_bits}
 use Rattle.ps_ring.specs.Numbers.{one, when}
@@ -14,11 +14,11 @@ use Rattle.ps_ring.proofs.Turned.{one_number, turned_same}
 use Rattle.ps_ring.proofs.Totals.{total_ext}
 use Rattle.ps_mono.specs.Sets.{holds, stands, Below}
 use Rattle.ps_mono.specs.Truth.{times}
-use Rattle.ps_mono.specs.Lists.{nat_eq_true, nat_eq_same, nat_eq_other}
+use Rattle.ps_mono.specs.Lists.{nat_eq_true}
 use Rattle.ps_mono.proofs.Laws.{holds_at, fails}
 use Rattle.ps_phase.specs.declared.terms.Term.{Term}
-use Rattle.ps_phase.specs.Phases.{phase_value, phase_occurs}
-use Rattle.ps_phase.proofs.Values.{phase_more, phase_agree}
+use Rattle.ps_phase.specs.Phases.{phase_value}
+use Rattle.ps_phase.proofs.Values.{phase_more}
 use Rattle.ps_sum.specs.declared.sums.PathSum.{PathSum}
 use Rattle.ps_sum.specs.Outs.{values}
 use Rattle.ps_sum.specs.Sums.{path_values}

@@ -1,5 +1,4 @@
-use Rattle.std.proofs.Common.{◌≡◌, ◌∙◌, arith, length, ap, refl, sym, List, ℕ}
-use Rattle.std.proofs.Math.IntN.{ℤ}
+use Rattle.std.proofs.Common.{◌∙◌, length, ap, sym, List, ℕ}
 use Rattle.ps_sum.proofs.TableWorths.{written_back}
 use Rattle.ps_probe.specs.Tallies.{tallied, listing, worth}
 use Rattle.ps_probe.proofs.Tables.{table_counts, names_few, names_true, table_size}
