@@ -1,7 +1,6 @@
 -- What is found where some inputs are fixed is justified.
 use mathlib.Core.Path.{fun_ext}
-use mathlib.Core.Logic.{∥∥₁_elim, ∥∥₁_map}
-use Rattle.std.proofs.Common.{◌≡◌, ◌≢◌, ℕ, zero, suc, ◌+◌, ◌-◌, ◌*◌, ◌%◌, ◌<◌, ◌≤◌, refl, ap, ap₂, sym, ◌∙◌, subst, arith, Bool, true, false, ◌&&◌, cond, nat_eq, Option, Some, None, List, [], ◌∷◌, ◌++◌, length, take, ◌⊎◌, inl, inr}
+use Rattle.std.proofs.Common.{◌≡◌, ℕ, zero, suc, ◌-◌, ◌%◌, ◌<◌, ◌≤◌, refl, ap, sym, ◌∙◌, subst, arith, Bool, true, false, ◌&&◌, cond, List, [], ◌∷◌, ◌++◌, length, take, inl, inr}
 use Rattle.std.proofs.Math.IntN.{ℤ, pos, ◌-ℤ◌}
 use Rattle.std.specs.Prelude.{nat_lt}
 use Rattle.std.proofs.lemmas.Bool.Decides.{nat_tests}
@@ -13,7 +12,7 @@ use Rattle.ps_ring.proofs.Turned.{one_number, turned_same}
 use Rattle.ps_ring.proofs.Totals.{total_ext}
 use Rattle.ps_ring.proofs.Roots.{same_sym, same_trans}
 use Rattle.ps_ring.proofs.StepLaws.{signed_number}
-use Rattle.ps_mono.specs.Sets.{stands, is_set, IsVarSet}
+use Rattle.ps_mono.specs.Sets.{stands, is_set}
 use Rattle.ps_phase.specs.Phases.{phase_value, phase_occurs}
 use Rattle.ps_phase.proofs.Values.{phase_agree}
 use Rattle.ps_prim.specs.declared.prims.Primitive.{Primitive as Prim}
@@ -31,13 +30,13 @@ use Rattle.ps_reach.specs.Reductions.{Reduces, normal, ReducesTo}
 use Rattle.ps_reach.specs.Normals.{IsNormalFor}
 use Rattle.ps_reach.specs.Overruns.{Overrun, part, IsOver}
 use Rattle.ps_reach.specs.Fillings.{Outcome}
-use Rattle.ps_reach.specs.Findings.{Finding, yes, no, stuck, limit, IsUnit, IsOverIn}
+use Rattle.ps_reach.specs.Findings.{Finding, IsUnit, IsOverIn}
 use Rattle.ps_reach.proofs.Reducing.{reduces_n, reduces_width, reduces_number}
 use Rattle.ps_reach.proofs.Denoting.{Stands, normal_stands}
 use Rattle.ps_reach.proofs.Filling.{RightOutcome, take_whole}
 use Rattle.ps_probe.specs.declared.pattern.Pattern.{Pattern}
 use Rattle.ps_probe.specs.Patterns.{is_fixed, is_one, set_by, Matches, IsFilled, IsRestricted}
-use Rattle.ps_probe.specs.Giving.{ShowsGiven, unit, no_unit, vanishing, all_one, first_other, left, EndsGiven, step_passes, shows, GivesOverlap, passes, ends, Gives, first_limit, second_limit, sums, IsGivenOverlap, IsLeft, IsGivenJustified}
+use Rattle.ps_probe.specs.Giving.{ShowsGiven, unit, no_unit, vanishing, all_one, first_other, left, EndsGiven, step_passes, shows, GivesOverlap, passes, ends, Gives, first_limit, second_limit, sums, IsGivenJustified}
 use Rattle.ps_probe.proofs.Tables.{taken_long}
 use Rattle.ps_probe.proofs.Searches.{bit_point}
 
@@ -167,10 +166,12 @@ not_one_differs {n} {A} {B} {p} {S1} {S2} {S} {R} x v l m h =
 filled_differs : {n : ℕ} {A B : List Prim} {p : Pattern} {S1 S2 S R T : PathSum} {ss : List Step} (bits at : List ℕ) → Fixed n A B p S1 S2 S R → Reduces R ss T → IsFilled p bits at → ¬ (IsOne (path_values T) (point T.n bits)) → Matches p (point n at) × DiffersAt n A B (point n at)
 filled_differs {n} {A} {B} {p} {S1} {S2} {S} {R} {T} bits at v r f h =
     let tn : T.n ≡ n = reduces_n r ∙ start_n v in
-    let m = filled_matches p n bits at v.len f in
-    (m, not_one_differs (point n at) v (taken_long n 0 (λ u. stands u at)) m
-    (λ one. subst (λ k. ¬ (IsOne (path_values T) (point k bits))) tn h
-    (one_after (point n bits) r (taken_long n 0 (λ u. stands u bits) ∙ sym (start_n v)) (count_one (path_values R) (path_values R) (point n at) (point n bits) refl (λ j. sym (filled_count p S R n bits at v.restricted f j)) one))))
+    let m = filled_matches p n bits at v.len f in (
+      m,
+      not_one_differs (point n at) v (taken_long n 0 (λ u. stands u at)) m
+          (λ one. subst (λ k. ¬ (IsOne (path_values T) (point k bits))) tn h
+          (one_after (point n bits) r (taken_long n 0 (λ u. stands u bits) ∙ sym (start_n v)) (count_one (path_values R) (path_values R) (point n at) (point n bits) refl (λ j. sym (filled_count p S R n bits at v.restricted f j)) one))),
+    )
 
 at_differs : {n : ℕ} {A B : List Prim} {p : Pattern} {S1 S2 S R T : PathSum} {ss : List Step} (at : List ℕ) → Fixed n A B p S1 S2 S R → Reduces R ss T → Matches p (point T.n at) → ¬ (IsOne (path_values T) (point T.n at)) → Matches p (point n at) × DiffersAt n A B (point n at)
 at_differs {n} {A} {B} {p} {S1} {S2} {S} {R} {T} at v r m h =

@@ -1,12 +1,12 @@
 -- Bits of numbers, and the marks of a word.
-use Rattle.std.proofs.Common.{◌≡◌, ◌≢◌, ℕ, zero, suc, ◌+◌, ◌-◌, ◌*◌, ◌/◌, ◌%◌, ◌^◌, ◌<◌, ◌≤◌, refl, ap, ap₂, sym, ◌∙◌, subst, arith, Bool, true, false, ◌&&◌, ◌||◌, not, cond, nat_eq, List, [], ◌∷◌, length, get_or, bit_and, bit_or, w64, ◌⊎◌, inl, inr}
+use Rattle.std.proofs.Common.{◌≡◌, ℕ, suc, ◌+◌, ◌*◌, ◌/◌, ◌%◌, ◌^◌, ◌<◌, ◌≤◌, refl, ap, ap₂, sym, ◌∙◌, subst, arith, Bool, true, false, ◌&&◌, not, cond, nat_eq, List, length, get_or, bit_and, bit_or, w64, ◌⊎◌, inl, inr}
 use Rattle.std.specs.Prelude.{nat_lt}
 use Rattle.std.specs.Int.{bit_at}
 use Rattle.std.proofs.lemmas.Bool.Decides.{nat_tests}
 use Rattle.std.proofs.lemmas.Nat.Bits.{bit_at_set_same, bit_at_set_other, bit_at-zero, shr_and_one}
 use Rattle.std.proofs.lemmas.List.{get_or_past}
 use Rattle.ps_mono.specs.Sets.{is_set}
-use Rattle.ps_mono.specs.Lists.{nat_eq_true, nat_eq_same, nat_eq_other}
+use Rattle.ps_mono.specs.Lists.{nat_eq_true, nat_eq_same}
 use Rattle.ps_probe.specs.declared.pattern.Pattern.{Pattern}
 use Rattle.ps_probe.specs.Patterns.{IsMark, IsWord, Spells, is_fixed, free_count}
 

@@ -1,6 +1,6 @@
 -- What sums show, and what two records come to.
-use Rattle.std.proofs.Common.{◌≡◌, ◌≢◌, ℕ, zero, suc, ◌+◌, ◌-◌, ◌*◌, ◌<◌, ◌≤◌, refl, ap, ap₂, sym, ◌∙◌, subst, arith, Bool, true, false, Option, Some, None, List, [], ◌∷◌, length, Fits, w32}
-use Rattle.std.specs.Prelude.{IsTrue, pos, negsuc, ◌-ℤ◌, ◌≤ℤ◌}
+use Rattle.std.proofs.Common.{◌≡◌, ℕ, ◌+◌, ◌<◌, ◌≤◌, refl, ap, sym, ◌∙◌, subst, arith, Bool, true, false, Some, None, List, [], ◌∷◌, length, Fits, w32}
+use Rattle.std.specs.Prelude.{IsTrue}
 use Rattle.std.proofs.lemmas.Int.{ints}
 use mathlib.Core.Logic.{∥∥₁_elim, ∥∥₁_map}
 use Rattle.std.specs.declared.sync.Arc.{Arc}
@@ -11,13 +11,11 @@ use Rattle.ps_sum.specs.declared.sums.PathSum.{PathSum}
 use Rattle.ps_sum.specs.declared.faults.Passed.{Passed}
 use Rattle.ps_sum.specs.declared.faults.JoinFault.{JoinFault}
 use Rattle.ps_sum.specs.declared.faults.JoinFault.TheVariants as fault
-use Rattle.ps_rules.specs.declared.steps.Step.{Step}
 use Rattle.ps_overlap.specs.Overlapping.{IsOverlapOf, OverlapPasses, NoneVanishes, IsFirstPoint}
 use Rattle.ps_overlap.specs.Faults.{IsOverlapFault}
 use Rattle.ps_reach.specs.declared.evidence.Evidence.{Evidence}
 use Rattle.ps_reach.specs.declared.evidence.Body.TheVariants as body
 use Rattle.ps_reach.specs.declared.record.Record.{Record}
-use Rattle.ps_reach.specs.Reductions.{Reduces, normal, over, ReducesTo}
 use Rattle.ps_reach.specs.Overruns.{Overrun}
 use Rattle.ps_reach.specs.Fillings.{kept, passed, overrun}
 use Rattle.ps_reach.specs.Parts.{IsRight, overrun_of, outcome_by}
@@ -32,9 +30,9 @@ use Rattle.ps_probe.specs.declared.pattern.Pattern.{Pattern}
 use Rattle.ps_probe.specs.declared.ending.Ending.{Ending}
 use Rattle.ps_probe.specs.declared.ending.Ending.TheVariants as ending
 use Rattle.ps_probe.specs.Patterns.{free_count, IsFilled, IsRestricted}
-use Rattle.ps_probe.specs.Searching.{Extends, Searched, IsFirstOther}
+use Rattle.ps_probe.specs.Searching.{Searched}
 use Rattle.ps_probe.specs.Ending.{IsEnding}
-use Rattle.ps_probe.specs.Giving.{counted_of, ShowsGiven, unit, no_unit, all_one, first_other, left, EndsGiven, step_passes, shows, GivesOverlap, passes, ends, Gives, first_limit, second_limit, sums, IsGivenJustified}
+use Rattle.ps_probe.specs.Giving.{ShowsGiven, unit, no_unit, all_one, first_other, left, EndsGiven, step_passes, shows, GivesOverlap, passes, ends, Gives, first_limit, second_limit, sums, IsGivenJustified}
 use Rattle.ps_probe.proofs.Givings.{gives_justified}
 
 -- ---- a sum without path variables

@@ -1,10 +1,10 @@
 -- Tables of phases, and what they count to.
-use Rattle.std.proofs.Common.{◌≡◌, ◌≢◌, ℕ, zero, suc, ◌+◌, ◌-◌, ◌*◌, ◌/◌, ◌%◌, ◌^◌, ◌<◌, ◌≤◌, refl, ap, ap₂, sym, ◌∙◌, subst, arith, Bool, true, false, ◌&&◌, ◌||◌, cond, nat_eq, List, [], ◌∷◌, ◌++◌, length, take, drop, get_or, set, length-append, ◌⊎◌, inl, inr}
+use Rattle.std.proofs.Common.{◌≡◌, ◌≢◌, ℕ, zero, suc, ◌+◌, ◌-◌, ◌*◌, ◌%◌, ◌^◌, ◌<◌, ◌≤◌, refl, ap, ap₂, sym, ◌∙◌, subst, arith, Bool, true, false, ◌&&◌, ◌||◌, cond, nat_eq, List, [], ◌∷◌, ◌++◌, length, take, get_or, set, length-append, ◌⊎◌, inl, inr}
 use Rattle.std.proofs.Math.IntN.{ℤ, pos, ◌+ℤ◌, ◌-ℤ◌}
 use Rattle.std.proofs.lemmas.Int.{ints}
 use Rattle.std.proofs.lemmas.Bool.Decides.{nat_tests}
 use Rattle.std.proofs.lemmas.Nat.{pow_below}
-use Rattle.std.proofs.lemmas.List.{get_or_append_left, get_or-append-add, get_or-set_same, get_or-set_other, take_more, take_all, length-set, get_or_default}
+use Rattle.std.proofs.lemmas.List.{get_or_append_left, get_or-append-add, get_or-set_same, get_or-set_other, take_all, length-set, get_or_default}
 use Rattle.std.specs.Prelude.{nat_lt}
 use Rattle.ps_ring.specs.Truths.{Truths, bit, same_bits}
 use Rattle.ps_ring.specs.Numbers.{one, when}
@@ -14,11 +14,11 @@ use Rattle.ps_ring.proofs.Turned.{one_number, turned_same}
 use Rattle.ps_ring.proofs.Totals.{total_ext}
 use Rattle.ps_mono.specs.Sets.{holds, stands, Below}
 use Rattle.ps_mono.specs.Truth.{times}
-use Rattle.ps_mono.specs.Lists.{nat_eq_true, nat_eq_same, nat_eq_other}
+use Rattle.ps_mono.specs.Lists.{nat_eq_true}
 use Rattle.ps_mono.proofs.Laws.{holds_at, fails}
 use Rattle.ps_phase.specs.declared.terms.Term.{Term}
-use Rattle.ps_phase.specs.Phases.{phase_value, phase_occurs}
-use Rattle.ps_phase.proofs.Values.{phase_more, phase_agree}
+use Rattle.ps_phase.specs.Phases.{phase_value}
+use Rattle.ps_phase.proofs.Values.{phase_more}
 use Rattle.ps_sum.specs.declared.sums.PathSum.{PathSum}
 use Rattle.ps_sum.specs.Outs.{values}
 use Rattle.ps_sum.specs.Sums.{path_values}
@@ -167,9 +167,9 @@ unfolding listing worth
 spread_half m old low high sum low' high' new eo el fs tl th en =
     let left : (y : Truths) → length y ≡ m → worth y (low ++ high) 0 ≡ worth y low 0 = λ y l. worth_left y low high 0 (let e : 2 ^ length y ≡ 2 ^ m = ap (λ n. 2 ^ n) l in omega (arith, e, el)) in
     let right : (y : Truths) → length y ≡ m → worth y (low ++ high) (0 + 2 ^ length y) ≡ worth y high 0 = λ y l.
-        (let e : 2 ^ length y ≡ 2 ^ m = ap (λ n. 2 ^ n) l in
-        let i : 0 + 2 ^ length y ≡ length low + 0 = omega (arith, e, el) in
-        ap (λ n. worth y (low ++ high) n) i ∙ worth_right y low high 0) in
+    (let e : 2 ^ length y ≡ 2 ^ m = ap (λ n. 2 ^ n) l in
+    let i : 0 + 2 ^ length y ≡ length low + 0 = omega (arith, e, el) in
+    ap (λ n. worth y (low ++ high) n) i ∙ worth_right y low high 0) in
     ap reduced en ∙ reduced_append low' high' ∙ ap₂ (λ (r t : List ℕ). r ++ t)
     (tl ∙ listing_ext m _ _ (λ y l. sym (ap (λ (r : List ℕ). (worth y r 0 + times false (worth y r (0 + 2 ^ length y))) % 4294967296) eo ∙ by_low (worth y (low ++ high) 0) (worth y (low ++ high) (0 + 2 ^ length y)) ∙ ap (λ r. r % 4294967296) (left y l))))
     (th ∙ listing_ext m _ _ (λ y l. sym (ap (λ (r : List ℕ). (worth y r 0 + times true (worth y r (0 + 2 ^ length y))) % 4294967296) eo ∙ ap₂ (λ p q. (p + times true q) % 4294967296) (left y l) (right y l) ∙ by_high (worth y low 0) (worth y high 0) (worth y sum 0) (worth_added y high low sum 0 (λ i. mod_sum i)))))

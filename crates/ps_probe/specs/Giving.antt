@@ -3,10 +3,8 @@ use Rattle.std.specs.Prelude.{ℕ, ◌≡◌, ◌≤◌, ◌<◌, ◌+◌, ◌�
 use Rattle.ps_ring.specs.Truths.{Truths}
 use Rattle.ps_prim.specs.declared.prims.Primitive.{Primitive as Prim}
 use Rattle.ps_prim.specs.Maps.{SameAt, DiffersAt}
-use Rattle.ps_prim.specs.Overlaps.{IsOne}
 use Rattle.ps_sum.specs.declared.sums.PathSum.{PathSum}
 use Rattle.ps_sum.specs.declared.faults.Passed.{Passed}
-use Rattle.ps_sum.specs.Sums.{path_values}
 use Rattle.ps_rules.specs.declared.steps.Step.{Step}
 use Rattle.ps_rules.specs.declared.steps.Move.{Move}
 use Rattle.ps_overlap.specs.Overlapping.{IsOverlapOf, OverlapPasses, LeastVanishing, NoneVanishes, point, IsLeastPoint, IsFirstPoint}

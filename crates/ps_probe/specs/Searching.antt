@@ -1,5 +1,5 @@
 -- The first input at which a closed sum is not 1.
-use Rattle.std.specs.Prelude.{ℕ, ◌≡◌, ◌≤◌, ◌<◌, Bool, true, false, Option, Some, None, List, length}
+use Rattle.std.specs.Prelude.{ℕ, ◌≡◌, ◌≤◌, ◌<◌, true, false, Option, Some, None, List, length}
 use Rattle.ps_ring.specs.Truths.{Truths, bit}
 use Rattle.ps_mono.specs.Sets.{stands, IsVarSet}
 use Rattle.ps_prim.specs.Overlaps.{IsOne}

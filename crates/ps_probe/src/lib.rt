@@ -3,8 +3,8 @@
 #![tactic(auto)]
 
 mod balancing;
-mod evidences;
 mod ending;
+mod evidences;
 pub mod finding;
 pub mod giving;
 pub mod pattern;

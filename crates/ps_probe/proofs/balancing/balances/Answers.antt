@@ -1,4 +1,4 @@
-use Rattle.std.proofs.Common.{ap, ◌∙◌, inl, inr, arith, refl, subst}
+use Rattle.std.proofs.Common.{ap, refl}
 use Rattle.ps_probe.specs.declared.balancing.Sides.{Sides}
 use Rattle.ps_probe.proofs.Counting.{both_even, both_odd}
 use Rattle.ps_probe.proofs.balancing.balances.Goals as goal

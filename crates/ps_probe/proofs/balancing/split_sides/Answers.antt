@@ -1,4 +1,4 @@
-use Rattle.std.proofs.Common.{rules, ap, ◌∙◌, inl, inr, arith, refl, get_or}
+use Rattle.std.proofs.Common.{ap, ◌∙◌, inl, inr, arith, get_or}
 use Rattle.std.proofs.lemmas.List.{get_or_default}
 use Rattle.std.specs.Vec.{vec_items}
 use Rattle.ps_probe.proofs.Counting.{sided_start, sided_next}

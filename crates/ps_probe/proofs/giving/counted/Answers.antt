@@ -1,4 +1,4 @@
-use Rattle.std.proofs.Common.{◌≡◌, ◌∙◌, sym, ap, subst, arith, refl, ◌+◌, ℕ}
+use Rattle.std.proofs.Common.{subst}
 use Rattle.ps_probe.specs.Searching.{Searched}
 use Rattle.ps_probe.proofs.Shown.{counted_left, counted_one, counted_other, few_counted}
 use Rattle.ps_probe.proofs.Searches.{begun_start}

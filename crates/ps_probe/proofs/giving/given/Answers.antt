@@ -1,13 +1,10 @@
-use Rattle.std.proofs.Common.{◌≡◌, subst, ap, sym, ◌∙◌, refl}
+use Rattle.std.proofs.Common.{subst, ap, sym, ◌∙◌, refl}
 use Rattle.std.proofs.lemmas.Result.{IfOk-weaker}
 use Rattle.ps_reach.specs.Runs.{AllItems}
-use Rattle.ps_reach.specs.Judging.{outcome_of}
-use Rattle.ps_reach.specs.Findings.{limit}
-use Rattle.ps_reach.specs.Parts.{overrun_of}
 use Rattle.ps_reach.specs.declared.record.Record.{Record}
 use Rattle.ps_normal.proofs.Finding.{records_comparable}
 use Rattle.ps_normal.proofs.Pairs.{record_usable}
-use Rattle.ps_probe.specs.Giving.{found_by, Gives}
+use Rattle.ps_probe.specs.Giving.{found_by}
 use Rattle.ps_probe.proofs.Shown.{first_passed, second_passed, both_sums, records_justified}
 use Rattle.ps_probe.proofs.giving.given.Goals as goal
 

@@ -1,4 +1,3 @@
-use Rattle.ps_probe.specs.Giving.{unit, no_unit}
 use Rattle.ps_probe.proofs.Shown.{shown_unit, shown_no}
 use Rattle.ps_probe.proofs.giving.plainly_shown.Goals as goal
 

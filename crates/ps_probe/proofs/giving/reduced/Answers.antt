@@ -1,4 +1,3 @@
-use Rattle.std.proofs.Common.{refl}
 use Rattle.std.proofs.lemmas.Result.{IfOk-weaker}
 use Rattle.ps_probe.specs.Giving.{found_by}
 use Rattle.ps_probe.proofs.Shown.{normal_inputs, normal_closed, normal_ends, over_ends}

@@ -1,4 +1,4 @@
-use Rattle.std.proofs.Common.{rules, ◌≡◌, ◌∙◌, ◌+◌, ◌-◌, ◌^◌, ◌%◌, arith, ap, sym, length, refl}
+use Rattle.std.proofs.Common.{rules, ◌∙◌, sym, refl}
 use Rattle.ps_sum.proofs.TableWorths.{half_size}
 use Rattle.ps_probe.proofs.Tables.{spread_one, spread_more}
 use Rattle.ps_probe.proofs.phases.+spread.Goals as goal

@@ -1,4 +1,4 @@
-use Rattle.std.proofs.Common.{◌∙◌, arith, length, inl, inr, ap, refl}
+use Rattle.std.proofs.Common.{arith, length, inl, inr, ap, refl}
 use Rattle.ps_probe.proofs.Tables.{filled_start, filled_next, sixteen}
 use Rattle.std.specs.Vec.{vec_items}
 use Rattle.ps_probe.proofs.phases.marked.Goals as goal

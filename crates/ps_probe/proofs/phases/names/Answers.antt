@@ -1,4 +1,4 @@
-use Rattle.std.proofs.Common.{◌≡◌, ◌∙◌, ap, sym, subst, arith}
+use Rattle.std.proofs.Common.{sym, subst, arith}
 use Rattle.ps_mono.specs.Sets.{Below}
 use Rattle.ps_probe.proofs.Tables.{names_start, names_next, names_below}
 use Rattle.ps_probe.proofs.phases.names.Goals as goal

@@ -1,5 +1,4 @@
-use Rattle.std.proofs.Common.{◌≡◌, ◌∙◌, arith, length, ap, refl, sym, List, ℕ}
-use Rattle.std.proofs.Math.IntN.{ℤ}
+use Rattle.std.proofs.Common.{◌∙◌, length, ap, sym, List, ℕ}
 use Rattle.ps_sum.proofs.TableWorths.{written_back}
 use Rattle.ps_probe.specs.Tallies.{tallied, listing, worth}
 use Rattle.ps_probe.proofs.Tables.{table_counts, names_few, names_true, table_size}
@@ -18,4 +17,4 @@ pub returns : goal.returns
 returns c =
     let back = written_back c.in_ok-table.table.len c.spread.new.table c.in_ok-table.table.items (c.spread.auto.table ∙ ap length c.deref_mut.ensures.value) (sym c.deref_mut.ensures.len ∙ ap length c.deref_mut.ensures.value) in
     λ j. table_counts c.args.sum.now c.args.at.now c.all_paths-all.result c.deref.result.now c.in_ok-table.table.items c.spread.new.table c.terms.result.now c.requires.closed (c.deref.ensures.value ∙ c.in_ok-names.ensures.names) c.terms.ensures.value c.all_paths-all.ensures
-        c.in_ok-table.ensures.worth (c.spread.ensures ∙ ap (λ (r : List ℕ). listing c.args.sum.now.m (λ y. worth y r 0)) c.deref_mut.ensures.value) j ∙ sym (ap (λ (r : List ℕ). tallied r j) back)
+    c.in_ok-table.ensures.worth (c.spread.ensures ∙ ap (λ (r : List ℕ). listing c.args.sum.now.m (λ y. worth y r 0)) c.deref_mut.ensures.value) j ∙ sym (ap (λ (r : List ℕ). tallied r j) back)

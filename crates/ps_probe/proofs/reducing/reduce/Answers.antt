@@ -1,6 +1,5 @@
-use Rattle.std.proofs.Common.{[], ◌++◌, ◌∷◌, ◌≡◌, subst, sym, List}
+use Rattle.std.proofs.Common.{[], ◌++◌, ◌∷◌, subst}
 use Rattle.std.specs.Prelude.{IfSome}
-use Rattle.ps_rules.specs.declared.steps.Step.{Step}
 use Rattle.ps_rules.specs.Rules.{FirstStep}
 use Rattle.ps_reach.specs.Reductions.{rest}
 use Rattle.ps_reach.proofs.Reducing.{reduces_more}

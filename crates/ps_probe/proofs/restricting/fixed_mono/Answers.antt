@@ -1,4 +1,4 @@
-use Rattle.std.proofs.Common.{◌≡◌, ◌∙◌, sym, ap, subst, arith, true, false, ◌+◌}
+use Rattle.std.proofs.Common.{◌∙◌, sym, subst, arith, ◌+◌}
 use Rattle.ps_probe.proofs.Restricted.{Fixing, fixing_start, fixing_one, fixing_none, fixed_zero, fixing_end}
 use Rattle.ps_probe.proofs.restricting.fixed_mono.Goals as goal
 use Rattle.ps_probe.proofs.restricting.fixed_mono.Goals.{then-has_fixed+else-not-is_one, else-has_fixed}

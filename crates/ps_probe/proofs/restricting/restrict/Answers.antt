@@ -1,4 +1,4 @@
-use Rattle.std.proofs.Common.{◌≡◌, ◌∙◌, ◌≤◌, ◌+◌, ℕ, sym, ap, refl, arith}
+use Rattle.std.proofs.Common.{◌∙◌, ap, refl}
 use Rattle.ps_phase.specs.Phases.{phase_occurs}
 use Rattle.ps_overlap.proofs.Made.{kept_scale, kept_bounds, no_outs_occur, no_width, no_polys}
 use Rattle.ps_probe.proofs.Restricted.{phase_set, not_gathered, none_there}

@@ -1,7 +1,7 @@
-use Rattle.std.proofs.Common.{rules, ◌≡◌, ◌∙◌, sym, ap, subst, arith, refl, true, false, ◌+◌, Bool}
+use Rattle.std.proofs.Common.{◌≡◌, ◌∙◌, sym, subst, true, false, ◌+◌, Bool}
 use Rattle.std.proofs.lemmas.Result.{IfOk-weaker}
 use Rattle.ps_probe.specs.Searching.{Searched}
-use Rattle.ps_probe.proofs.Searches.{all_there, other_there, begun_next, fixed_searched, low_some, free_searched}
+use Rattle.ps_probe.proofs.Searches.{all_there, other_there, fixed_searched, low_some, free_searched}
 use Rattle.ps_probe.proofs.searching.+first_other.Goals as goal
 use Rattle.ps_probe.proofs.searching.+first_other.Goals.{then-is_one, else-is_one}
 

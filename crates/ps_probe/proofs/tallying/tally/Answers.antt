@@ -1,5 +1,4 @@
-use Rattle.std.proofs.Common.{◌≡◌, ◌∙◌, arith, pos, ◌≤ℤ◌, inl, inr, ap, refl}
-use Rattle.std.proofs.lemmas.Int.{ints}
+use Rattle.std.proofs.Common.{inl, inr}
 use Rattle.std.proofs.lemmas.Result.{IfOk-weaker}
 use Rattle.ps_sum.specs.Sums.{path_values}
 use Rattle.ps_overlap.specs.Overlapping.{point}

@@ -1,6 +1,6 @@
-use Rattle.std.proofs.Common.{inl, inr, ap, sym, ◌∙◌, get_or, refl, arith}
+use Rattle.std.proofs.Common.{◌∙◌, get_or, refl, arith}
 use Rattle.std.proofs.lemmas.List.{get_or_default}
-use Rattle.ps_probe.proofs.Marks.{marked_start, marked_one, marked_zero, marked_free, marked_end, no_mark}
+use Rattle.ps_probe.proofs.Marks.{marked_start, marked_one, marked_zero, marked_free, no_mark}
 use Rattle.ps_probe.proofs.pattern.Pattern.of.Goals as goal
 use Rattle.ps_probe.proofs.pattern.Pattern.of.Goals.{then-mark-eq49, else-mark-eq49+then-mark-eq48, else-mark-eq49+else-mark-eq48+else-mark-ne45}
 
