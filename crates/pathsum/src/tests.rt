@@ -580,7 +580,7 @@ fn generated_scripts_are_served(rt: HostRuntime) -> Result<(), Fail> {
         told(&["gen", "1", "2"], b"", 64, b"words\n"),
     ];
     for row in &rows {
-        assert!(rt; ends_so(rt.alloc(), row)?);
+        assert!(rt; ends_so(&rt, rt.alloc(), row)?);
     }
     Ok(())
 }
