@@ -87,7 +87,10 @@ class Readme(unittest.TestCase):
     def test_the_program_document(self):
         lines = re.findall(r"^    (.*)$", (ROOT / "docs/PROGRAM.md").read_text(), re.MULTILINE)
         printed = self.run_block("\n".join(lines))
-        self.assertTrue(printed.startswith("yes\npathsum 1\n") and printed.endswith("\nend\naccepted\n"))
+        answers, generated = printed.split("gen 1 16 4096\n")
+        self.assertTrue(answers.startswith("yes\npathsum 1\n") and answers.endswith("\nend\naccepted\n"))
+        wanted = ["0 opened 1 missing 0", "0 committed 2 missing 1023", "0 committed 3 missing 2047", "0 yes", "entries 4100"]
+        self.assertEqual(generated.splitlines(), wanted)
 
     def test_the_examples(self):
         """Each example has the answer that its table tells."""
