@@ -8,13 +8,23 @@ ghost use Rattle.ps_desk.specs.Views.{entry, opened, refusing, after, giving, gi
 use crate::object::Object;
 use crate::refusals::{Full, NoSeat};
 use crate::seat::{Desk, NotClosed, Seat, Table, Token};
+use crate::sleepers::Sleepers;
 use crate::steps::{Back, Draw, End, Give, Look, Settle};
 use atomic_table::Refused;
 use std::alloc::Global;
+use std::hint::spin_loop;
 use std::sync::Wait;
 
 // The first ticket that is refused.
 const LAST: u64 = 262_144;
+
+// How many turns before its own a seat stays awake for, and how often it looks before it sleeps.
+const NEAR: u64 = 2;
+
+const LOOKS: u32 = 200;
+
+// How many seats are woken at the end of a turn.
+const AHEAD: u64 = 2;
 
 // The words of the table.
 const TICKETS: usize = 0;
@@ -49,7 +59,11 @@ impl<O: Object> Desk<O> {
         slots.push_reserved(Some(object));
         match Table::new(alloc, &[0, 0], slots, &seats) {
             Ok((table, token)) => Ok((
-                Desk { table, seats },
+                Desk {
+                    table,
+                    sleepers: Sleepers::new(),
+                    seats,
+                },
                 Seat {
                     token,
                     number: 0,
@@ -67,6 +81,18 @@ impl<O: Object> Desk<O> {
         }
     }
 
+    // Looks a bounded number of times whether the ticket is served, so that a seat whose turn comes soon need not sleep.
+    // It tells nothing: who calls it looks again.
+    fn linger(&self, ticket: u64) {
+        for _ in 0..LOOKS {
+            let before = ticket.saturating_sub(self.table.shared.peek(SERVING));
+            if before == 0 || before > NEAR {
+                return;
+            }
+            spin_loop();
+        }
+    }
+
     // Waits until the ticket is served, and takes the object.
     fn take_turn<R: Wait>(&self, rt: &R, token: &mut Token<O>, ticket: u64)
         requires desk { token.old.table_id ≡ self.now.table.shared.table_id }
@@ -76,11 +102,12 @@ impl<O: Object> Desk<O> {
         ensures found { Found O.journal O.spare O.legal token.old.me token.new.me ticket }
     {
         for _ in rt.forever() {
+            self.linger(ticket);
             let serving = self.table.shared.load::<Look>(token, SERVING);
             if serving == ticket {
                 return;
             }
-            self.table.shared.park(rt, SERVING, serving as u32);
+            self.sleepers.park(rt, ticket);
         }
         unreachable!()
     }
@@ -107,13 +134,15 @@ impl<O: Object> Desk<O> {
         reply
     }
 
-    // Wakes each seat that may be parked, once `ticket` was served: at most those that have drawn a ticket since.
-    // Who draws one later finds it served.
+    // Wakes the seat whose turn comes behind `ticket`, which was served, and, so that it is awake in time, the one
+    // whose turn comes after that. Who draws a ticket later finds out by its look.
     fn wake(&self, ticket: u64) {
         let drawn = self.table.shared.peek(TICKETS);
-        let waiting = drawn.saturating_sub(ticket.saturating_add(1));
-        for _ in 0..waiting.min(u64::from(self.seats)) {
-            self.table.shared.wake_one(SERVING);
+        for ahead in 1..=AHEAD {
+            let next = ticket.saturating_add(ahead);
+            if next < drawn {
+                self.sleepers.wake(next);
+            }
         }
     }
 

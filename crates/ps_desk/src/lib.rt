@@ -8,6 +8,7 @@ mod entry;
 mod object;
 mod refusals;
 mod seat;
+mod sleepers;
 mod steps;
 mod view;
 

@@ -3,6 +3,7 @@ ghost use Rattle.std.specs.Prelude.{◌≡◌, ◌≤◌};
 ghost use Rattle.ps_desk.specs.Resting.{Rests};
 
 use crate::object::Object;
+use crate::sleepers::Sleepers;
 use crate::steps::Turns;
 use crate::view::View;
 use std::alloc::Global;
@@ -38,6 +39,7 @@ pub struct Seat<O: Object> {
 #[derive(Drop)]
 pub struct Desk<O: Object> {
     pub(crate) table: Table<O>,
+    pub(crate) sleepers: Sleepers,
     pub(crate) seats: u32,
     ghost words: { table.shared.table_id.words ≡ 2 },
     ghost slots: { table.shared.table_id.slots ≡ 1 },
