@@ -1,8 +1,8 @@
 -- A seat between turns, after it gave a number away or took a seat back.
-use Rattle.std.proofs.Common.{◌≡◌, ℕ, ◌-◌, List, [], Option, Some, refl, sym, ap, ◌∙◌, subst, arith}
+use Rattle.std.proofs.Common.{◌≡◌, ℕ, ◌-◌, List, [], Option, refl, sym, ap, ◌∙◌, subst, arith}
 use Rattle.ps_desk.specs.declared.entry.Entry.{Entry}
 use Rattle.ps_desk.specs.declared.view.View.{View}
-use Rattle.ps_desk.specs.Views.{Has, receiving, settled, joined, refusing, own_of, IsBeginning}
+use Rattle.ps_desk.specs.Views.{Has, receiving, settled, joined, own_of, IsBeginning}
 use Rattle.ps_desk.specs.Steps.{Sitting, Settles}
 use Rattle.ps_desk.specs.Resting.{Rests}
 use Rattle.ps_desk.proofs.ListLemmas.{length_less}
