@@ -1,5 +1,6 @@
 pub mod TurnLaws
 pub mod ServedLaws
+pub mod WorkLaws
 pub mod ListLaws
 pub mod CrewLaws
 pub mod DealLaws

@@ -1,5 +1,5 @@
 -- Lists side by side, and lists with one more at the end.
-use Rattle.std.proofs.Common.{◌≡◌, ◌≢◌, ℕ, zero, suc, ◌<◌, List, [], ◌∷◌, ◌++◌, length, set, get_or, refl, sym, ap, ◌∙◌, subst, ⊎_elim, arith}
+use Rattle.std.proofs.Common.{◌≡◌, ◌≢◌, ℕ, zero, suc, ◌+◌, ◌<◌, ◌≤◌, List, [], ◌∷◌, ◌++◌, length, set, get_or, refl, sym, ap, ◌∙◌, subst, ⊎_elim, arith}
 use mathlib.Core.Option.{some, some-ne-none}
 use lib.ListN.{get_elem?}
 use Rattle.atomic_table.proofs.Lists.{at_longer, at_last}
@@ -69,3 +69,31 @@ pub at_index : {A : Type 0} (l : List A) (i : ℕ) (d : A) → i < length l → 
 at_index [] i d low = absurd (omega arith)
 at_index (x ∷ xs) zero d low = refl
 at_index (x ∷ xs) (suc i) d low = at_index xs i d (omega (arith, low))
+
+-- the same of pairs of which the second stands n places further on
+pub offset_more : {A B : Type 0} (P : A → B → Type 0) (n : ℕ) (xs xs' : List A) (ys ys' : List B) (x : A) (y : B) → xs' ≡ xs ++ x ∷ [] → ys' ≡ ys ++ y ∷ []
+    → length ys ≡ n + length xs → ((k : ℕ) (a : A) (b : B) → get_elem? xs k ≡ some a → get_elem? ys (n + k) ≡ some b → P a b) → P x y
+    → (k : ℕ) (a : A) (b : B) → get_elem? xs' k ≡ some a → get_elem? ys' (n + k) ≡ some b → P a b
+offset_more P n xs xs' ys ys' x y isx isy len all here k a b ea eb =
+    let ea' = ap (λ l. get_elem? l k) (sym isx) ∙ ea in
+    let eb' = ap (λ l. get_elem? l (n + k)) (sym isy) ∙ eb in
+    ⊎_elim
+    (λ t. ⊎_elim
+    (λ u. all k a b t.1 u.1)
+    (λ u. absurd (let low = within xs k a t.1 in let e = u.0 in omega arith))
+    (at_end ys y b (n + k) eb'))
+    (λ t. ⊎_elim
+    (λ u. absurd (let e = t.0 in u.0 (omega arith)))
+    (λ u. subst (λ z. P z b) t.1 (subst (λ z. P x z) u.1 here))
+    (at_end ys y b (n + k) eb'))
+    (at_end xs x a k ea')
+
+-- pairs that stay where the second list grows
+pub side_kept : {A B : Type 0} (P : A → B → Type 0) (xs : List A) (ys ys' : List B) (y : B) → ys' ≡ ys ++ y ∷ [] → length xs ≤ length ys
+    → ((k : ℕ) (a : A) (b : B) → get_elem? xs k ≡ some a → get_elem? ys k ≡ some b → P a b)
+    → (k : ℕ) (a : A) (b : B) → get_elem? xs k ≡ some a → get_elem? ys' k ≡ some b → P a b
+side_kept P xs ys ys' y isy len all k a b ea eb =
+    ⊎_elim
+    (λ u. all k a b ea u.1)
+    (λ u. absurd (let low = within xs k a ea in let e = u.0 in omega arith))
+    (at_end ys y b k (ap (λ l. get_elem? l k) (sym isy) ∙ eb))

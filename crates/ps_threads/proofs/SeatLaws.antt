@@ -8,6 +8,8 @@ use Rattle.std.specs.declared.vec.Vec.{Vec}
 use Rattle.std.specs.declared.alloc.Global.{Global}
 use Rattle.atomic_table.specs.Seated.{TableId}
 use Rattle.atomic_table.proofs.Lists.{at_longer, at_last}
+use Rattle.ps_desk.specs.declared.object.Object.{Ghosts}
+use Rattle.ps_desk.specs.declared.seat.Seat.{Seat}
 use Rattle.ps_desk.specs.declared.view.View.{View}
 use Rattle.ps_desk.specs.declared.view.Ended.{Ended}
 use Rattle.ps_desk.specs.Views.{Has, giving, given, joined, ended_of, opened, take_out}
@@ -21,8 +23,9 @@ use Rattle.ps_sessions.specs.declared.runs.Ending.{Ending}
 use Rattle.ps_sessions.specs.declared.runs.Ending.TheVariants.{Done, Full}
 use Rattle.ps_sessions.specs.Lines.{commands_of}
 use Rattle.ps_threads.specs.declared.parts.Job.{Job}
-use Rattle.ps_threads.specs.Served.{Serves, AreDealt, IsJob, AreJobs, first_full}
-use Rattle.ps_threads.specs.Lent.{Lends, ServesAs, CutAt, Came}
+use Rattle.ps_threads.specs.Served.{AreDealt, IsJob, AreJobs, first_full}
+use Rattle.ps_threads.specs.Worked.{IsIdle, AreIdle}
+use Rattle.ps_threads.specs.Lent.{HasServed, Lends, ServesAs, CutAt, Came}
 use Rattle.ps_threads.proofs.ListLaws.{all_more, at_middle}
 
 -- ---- the first seat
@@ -73,7 +76,7 @@ one_full (Full t) b ticket e = inl e
 
 module _ (lines : List Line) (n : ℕ) (ending this now : Ending) (v w v' : View Cmd Reply) (c : Came lines n ending v.ended) (both : now ≡ first_full ending this)
     (is : v' ≡ joined v w) (none : w.ended ≡ []) (number : w.number + length v.ended ≡ n)
-    (serves : Serves (commands_of w.number lines) w.own w.refused this) where
+    (serves : HasServed lines w.number w.own w.refused this) where
   ended : v'.ended ≡ v.ended ++ ended_of w ∷ []
   ended = ap (λ (y : View Cmd Reply). y.ended) is ∙ ap (λ l. v.ended ++ ended_of w ∷ l) none
 
@@ -125,3 +128,18 @@ module _ (lines : List Line) (table : TableId) (dealt before rest : List (Vec Co
 
   pub jobs_more : AreJobs lines table all
   jobs_more = all_more jobs all job is (IsJob lines table) each job_is
+
+-- ---- one idle seat more
+pub lends_next : (v v' : View Cmd Reply) → Lends v v.next → v' ≡ giving v → Lends v' v'.next
+lends_next v v' l is = subst (Lends v') (sym (ap (λ (y : View Cmd Reply). y.next) is)) (lends_more v v' v.next l refl is)
+
+module _ {O : Type 0} {o : Ghosts O Cmd Reply} where
+  pub idle_more : (table : TableId) (n : ℕ) (seats all : List (Seat O Cmd Reply o)) (seat : Seat O Cmd Reply o) (giver : View Cmd Reply)
+      → AreIdle table n seats → all ≡ seats ++ seat ∷ [] → desk_of seat ≡ table → view_of seat ≡ given giver → giver.next ≡ n + length seats
+      → AreIdle table n all
+  idle_more table n seats all seat giver each is here new next =
+      all_more seats all seat is (λ k s. IsIdle table (n + k) s) each record {
+        desk_is = here;
+        number_is = ap (λ (v : View Cmd Reply). v.number) new ∙ next;
+        fresh = record { own = ap (λ (v : View Cmd Reply). v.own) new; ended = ap (λ (v : View Cmd Reply). v.ended) new };
+      }

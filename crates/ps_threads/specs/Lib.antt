@@ -1,4 +1,5 @@
 pub mod Seated
 pub mod Served
+pub mod Worked
 pub mod Lent
 pub mod Runs

@@ -78,9 +78,6 @@ pub record IsBack (desk : TableId) (k : ℕ) (f : Finished) : Type 0 where
 abbrev pub AreBack : TableId → List Finished → Type 0
 AreBack desk fs = (k : ℕ) (f : Finished) → get_elem? fs k ≡ some f → IsBack desk k f
 
-abbrev pub AllServe : List Line → List Finished → Type 0
-AllServe lines fs = (k : ℕ) (f : Finished) → get_elem? fs k ≡ some f → Serves (commands_of (k + 1) lines) (view_of f.seat).own (view_of f.seat).refused f.ending
-
 -- the first of two endings that is not Done
 abbrev pub first_full : Ending → Ending → Ending
 first_full Done other = other

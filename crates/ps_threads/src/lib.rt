@@ -1,6 +1,7 @@
-//! The sessions of a script on threads of their own, which take their turns at one desk.
+//! The sessions of a script on threads of their own, beside workers, which take their turns at one desk.
 #![tactic(auto)]
 
+pub mod beside;
 pub mod crew;
 pub mod dealing;
 pub mod held;
@@ -11,7 +12,7 @@ pub mod seats;
 pub mod serving;
 pub mod tidings;
 
-pub use runs::{Run, run_sessions};
+pub use runs::{Run, run_beside, run_sessions};
 pub use seated::Session;
 
 #[cfg(test)]

@@ -2,8 +2,9 @@
 ghost use Rattle.std.specs.Prelude.{◌≡◌, ℕ, ◌+◌, ◌<◌, ◌≤◌, List, [], length, vec_len, vec_capacity};
 ghost use Rattle.ps_script.specs.declared.script.Line.{Line};
 ghost use Rattle.ps_desk.specs.Seats.{IsSeatOf, desk_of, view_of};
-ghost use Rattle.ps_threads.specs.Served.{AreDealt, AreJobs, AreBack, AllServe, first_full};
-ghost use Rattle.ps_threads.specs.Lent.{Lends, Came};
+ghost use Rattle.ps_threads.specs.Served.{AreDealt, AreJobs, AreBack, first_full};
+ghost use Rattle.ps_threads.specs.Worked.{AreIdle};
+ghost use Rattle.ps_threads.specs.Lent.{AllServe, Lends, Came};
 
 use crate::held::Held;
 use crate::parts::{Finished, Job};
@@ -26,6 +27,8 @@ pub fn seat_all(
     ensures desk { desk_of first.new ≡ desk_of first.old }
     ensures ended { (view_of first.new).ended ≡ (view_of first.old).ended }
     ensures lends { Lends (view_of first.new) (vec_len dealt + 1) }
+    ensures next { (view_of first.new).next ≡ vec_len dealt + 1 }
+    ensures end { (view_of first.new).end ≡ (view_of first.old).end }
     ensures len { vec_len result ≡ vec_len dealt }
     ensures jobs { (lines : List Line) → AreDealt lines dealt.items → AreJobs lines (desk_of first.old) result.items }
 {
@@ -37,6 +40,34 @@ pub fn seat_all(
         jobs.push_reserved(Job { seat, commands });
     }
     jobs
+}
+
+/// Splits off so many seats, with the numbers that come next.
+pub fn seat_more(
+    desk: &Desk<Held>,
+    first: &mut Seat<Held>,
+    count: u32,
+    seats: Vec<Seat<Held>>,
+) -> Vec<Seat<Held>>
+    requires desk { IsSeatOf desk.now first.old }
+    requires lends { Lends (view_of first.old) (view_of first.old).next }
+    requires spare { (view_of first.old).next + count ≤ (view_of first.old).end }
+    requires none { seats.items ≡ [] }
+    requires room { count ≤ vec_capacity seats }
+    ensures desk { desk_of first.new ≡ desk_of first.old }
+    ensures ended { (view_of first.new).ended ≡ (view_of first.old).ended }
+    ensures lends { Lends (view_of first.new) ((view_of first.old).next + count) }
+    ensures len { vec_len result ≡ count }
+    ensures seats { AreIdle (desk_of first.old) (view_of first.old).next result.items }
+{
+    let mut seats = seats;
+    for _ in 0..count {
+        let Ok(seat) = desk.split(first) else {
+            unreachable!()
+        };
+        seats.push_reserved(seat);
+    }
+    seats
 }
 
 /// The first of two endings that is no `Done`.

@@ -32,6 +32,14 @@ impl Tidings {
         }
     }
 
+    /// Closes the bell, and sets all flags.
+    pub fn dismiss<R: Wait>(&self, rt: &R) {
+        self.bell.close(rt);
+        for seat in 0..SEATS {
+            self.flags.set(seat);
+        }
+    }
+
     // Sets the flags of the seats whose bits are set.
     fn call_off(&self, claims: u64) {
         for seat in 0..SEATS {

@@ -1,4 +1,6 @@
-//! The answers of a worker's steps.
+//! The answers of a worker's steps, and why a worker leaves.
+ghost use Rattle.std.specs.Prelude.{◌≡◌};
+ghost use Rattle.ps_worker.specs.Shifts.{rests};
 
 /// How a step of a worker ends.
 #[derive(Clone, Copy, Debug, PartialEq, Eq, Drop)]
@@ -17,4 +19,32 @@ pub enum Work1 {
     Full,
     /// Memory was wanting.
     Memory,
+}
+
+impl Work1 {
+    /// Whether there is nothing to do behind such a step until the bell is rung.
+    pub fn rests(self) -> bool
+        ensures { result ≡ rests self }
+    {
+        match self {
+            Work1::Worked => false,
+            Work1::Already(_) => false,
+            Work1::Dropped(_) => false,
+            Work1::Idle => true,
+            Work1::NoRoom(_) => true,
+            Work1::Full => false,
+            Work1::Memory => true,
+        }
+    }
+}
+
+/// Why a worker leaves.
+#[derive(Clone, Copy, Debug, PartialEq, Eq, Drop)]
+pub enum Leaving {
+    /// The bell was found closed.
+    Closed,
+    /// A ticket was refused.
+    Full,
+    /// It took as many steps as it may.
+    Spent,
 }

@@ -5,8 +5,7 @@ use Rattle.ps_desk.specs.Seats.{view_of}
 use Rattle.ps_desk.specs.Views.{Has, ended_of}
 use Rattle.ps_journal.specs.declared.commands.Cmd.{Cmd}
 use Rattle.ps_journal.specs.declared.replies.Reply.{Reply}
-use Rattle.ps_sessions.specs.Lines.{commands_of}
-use Rattle.ps_threads.specs.Served.{Serves}
+use Rattle.ps_threads.specs.Lent.{HasServed}
 use Rattle.ps_threads.proofs.ListLaws.{front_at, last_at}
 use Rattle.ps_threads.proofs.SeatLaws.{lends_less, came_more}
 use Rattle.ps_threads.proofs.seats.take_back.Goals as goal
@@ -60,8 +59,8 @@ loop-finished-preserved c =
       back = λ k f' e. i.back k f' (front_at rest all f items k f' e);
       came = λ lines serve.
           let both = i.came lines serve in
-          let serves : Serves (commands_of w.number lines) w.own w.refused f.ending =
-          subst (λ n. Serves (commands_of n lines) w.own w.refused f.ending) (sym last.number) (both.0 (length rest) f at) in (
+          let serves : HasServed lines w.number w.own w.refused f.ending =
+          subst (λ n. HasServed lines n w.own w.refused f.ending) (sym last.number) (both.0 (length rest) f at) in (
             (λ k f' e. both.0 k f' (front_at rest all f items k f' e)),
             came_more lines (vec_len c.args.done) c.loop-finished.ending f.ending c.earlier-ending.result old w new both.1 c.earlier-ending.ensures joins
                 last.ended below serves,

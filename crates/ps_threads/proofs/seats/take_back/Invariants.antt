@@ -1,8 +1,8 @@
 use Rattle.std.proofs.Common.{◌≡◌, ◌+◌, List, length, vec_len}
 use Rattle.ps_desk.specs.Seats.{desk_of, view_of}
 use Rattle.ps_script.specs.declared.script.Line.{Line}
-use Rattle.ps_threads.specs.Served.{AreBack, AllServe}
-use Rattle.ps_threads.specs.Lent.{Lends, Came}
+use Rattle.ps_threads.specs.Served.{AreBack}
+use Rattle.ps_threads.specs.Lent.{AllServe, Lends, Came}
 use Rattle.ps_threads.proofs.seats.take_back.Given as goal
 
 abbrev pub decreases-loop-finished : goal.decreases-loop-finished
