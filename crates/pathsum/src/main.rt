@@ -24,6 +24,8 @@ mod splits;
 #[cfg(test)]
 mod tests;
 mod verdict;
+#[cfg(test)]
+mod worker_tests;
 mod workers;
 
 use answer::Answer;
