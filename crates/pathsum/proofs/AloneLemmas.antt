@@ -13,7 +13,7 @@ use Rattle.ps_sessions.specs.Runs.{IsRunOf}
 use Rattle.pathsum.specs.Runs.{Holds}
 
 -- entries that match no command end none
-none_ends : (es : List Entry) (cs : List Command) → Matched es cs → cs ≡ [] → session_entries es ≡ []
+pub none_ends : (es : List Entry) (cs : List Command) → Matched es cs → cs ≡ [] → session_entries es ≡ []
 none_ends es cs nothing e = refl
 none_ends es cs (inner {es = front} x m i) e =
     let both = filter-append (λ y. ends_command y.cmd y.reply) front (x ∷ []) in

@@ -14,7 +14,6 @@ use Rattle.ps_sessions.specs.declared.runs.Ending.TheVariants as ending
 use Rattle.ps_sessions.specs.declared.runs.Run.{Run}
 use Rattle.ps_sessions.proofs.Above.{of_sessions}
 use Rattle.pathsum.specs.Ended.{Writes, whole, failed}
-use Rattle.pathsum.specs.Scripts.{IsRun}
 use Rattle.pathsum.specs.Runs.{Holds}
 use Rattle.pathsum.specs.Outcomes.{ending_status}
 use Rattle.pathsum.specs.Generated.{IsNumber, IsWithin, IsGeneration, IsGeneratedScript, empty_circuit, heading, Generates, GenerationComes, starved, done, full, GenerationEnds}
@@ -26,7 +25,7 @@ use Rattle.pathsum.proofs.RunLemmas.{other_number}
 pub clash : {b : Bool} → b ≡ false → b ≡ true → ⊥
 clash e g = cc
 
-same_number : (m n : ℕ) → m < 2 ^ 32 → n < 2 ^ 32 → decimal m ≡ decimal n → m ≡ n
+pub same_number : (m n : ℕ) → m < 2 ^ 32 → n < 2 ^ 32 → decimal m ≡ decimal n → m ≡ n
 same_number m n h k e = decimal_injective m n (omega arith) (omega arith) e
 
 same_ok : {E : Type 0} {r : Result ℕ E} (m n : ℕ) → r ≡ Ok m → r ≡ Ok n → m ≡ n
@@ -106,12 +105,6 @@ one_generation P words s q n s' q' n' g h p =
   where
     second : {a b c d e f g h : List ℕ} → a ∷ b ∷ c ∷ d ∷ [] ≡ e ∷ f ∷ g ∷ h ∷ [] → b ≡ f
     second e = cc
-
-pub never_both : (words : List (List ℕ)) (s q n : ℕ) → IsRun words → IsGeneration words s q n → ⊥
-never_both words s q n r g = no (sym r ∙ g.words_are)
-  where
-    no : {a b c d e f : List ℕ} → a ∷ b ∷ [] ≡ c ∷ d ∷ e ∷ f ∷ [] → ⊥
-    no e = cc
 
 -- ---- the script
 pub named : is_name (codes "g") ≡ true

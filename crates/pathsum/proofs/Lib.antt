@@ -9,3 +9,4 @@ pub mod Placing
 pub mod RunLemmas
 pub mod Splitting
 pub mod Verdicts
+pub mod WorkerWords

@@ -25,32 +25,41 @@ use Rattle.pathsum.specs.declared.scripts.Outcome.TheVariants.{Hindered, Served}
 use Rattle.pathsum.specs.Answers.{status_of, text_of}
 use Rattle.pathsum.specs.Ended.{Writes, whole, failed}
 use Rattle.pathsum.specs.Scripts.{Gives, IsScript, IsFaulty, answer_to}
-use Rattle.pathsum.specs.Runs.{Holds, HoldsFirst, Headline, CutShort, Hinders, Comes, hindered, starved, done, full, RunEnds, IsOneRefusal, IsRefusedAs, refused, unread, unwritten, wanting}
+use Rattle.pathsum.specs.Runs.{Holds, HoldsFirst, HasWorkers, Headline, CutShort, Hinders, Comes, hindered, starved, done, full, RunEnds, IsOneRefusal, IsRefusedAs, refused, unread, unwritten, wanting}
+use Rattle.pathsum.proofs.AloneLemmas.{none_ends}
 use Rattle.pathsum.specs.Outcomes.{YieldsOf, YieldsRun, Yields, ending_status, last_line, run_text, PrintsRun}
 
 -- ---- what bytes come to
 -- a fault of the bytes is answered by it, and want of memory by that
-pub fault_yields : (bytes : List ℕ) (e : ScriptFault) (a : Answer) → Known (Err e) (IsReading 1 bytes) → Only (Err e) (IsReading 1 bytes)
-    → a ≡ answer_to e → YieldsOf bytes (Hindered a)
-fault_yields bytes (fault.Form n) a k o q = inr (fault.Form n, record { reads = k; only = o }, q)
-fault_yields bytes (fault.Session n) a k o q = inr (fault.Session n, record { reads = k; only = o }, q)
-fault_yields bytes (fault.Block n) a k o q = inr (fault.Block n, record { reads = k; only = o }, q)
-fault_yields bytes fault.Memory a k o q = inl q
+pub fault_yields : (workers : ℕ) (bytes : List ℕ) (e : ScriptFault) (a : Answer) → Known (Err e) (IsReading 1 bytes) → Only (Err e) (IsReading 1 bytes)
+    → a ≡ answer_to e → YieldsOf workers bytes (Hindered a)
+fault_yields workers bytes (fault.Form n) a k o q = inr (fault.Form n, record { reads = k; only = o }, q)
+fault_yields workers bytes (fault.Session n) a k o q = inr (fault.Session n, record { reads = k; only = o }, q)
+fault_yields workers bytes (fault.Block n) a k o q = inr (fault.Block n, record { reads = k; only = o }, q)
+fault_yields workers bytes fault.Memory a k o q = inl q
 
--- a seat without commands has no entry, and so none that ends one
-none_ends : (lines : List Line) (run : Run) → IsRunOf lines run → (seat : ℕ) → commands_of seat lines ≡ [] → session_entries (own_entries seat run.journal) ≡ []
-none_ends lines run r seat e = ap session_entries (r.others seat e)
+-- a seat without commands has no entry that ends one
+none_left : (lines : List Line) (workers : ℕ) (run : Run) → IsRunOf lines workers run → (seat : ℕ) → commands_of seat lines ≡ []
+    → session_entries (own_entries seat run.journal) ≡ []
+none_left lines workers run r seat e =
+    let part = r.parts seat in
+    none_ends (own_entries seat run.journal) part.served part.matched (none_served part.served part.left (sym part.split ∙ e))
+  where
+    none_served : (xs ys : List Command) → xs ++ ys ≡ [] → xs ≡ []
+    none_served [] ys e = refl
+    none_served (x ∷ xs) ys e = absurd (cc)
 
-run_holds : (lines : List Line) (run : Run) → IsRunOf lines run → run.ending ≡ ending.Done → Holds lines run.journal
-run_holds lines run r e = record { legal = r.legal; each = r.complete e; others = none_ends lines run r; just = r.just }
+run_holds : (lines : List Line) (workers : ℕ) (run : Run) → IsRunOf lines workers run → run.ending ≡ ending.Done → Holds lines run.journal
+run_holds lines workers run r e = record { legal = r.legal; each = r.complete e; others = none_left lines workers run r; just = r.just }
 
-run_holds_first : (lines : List Line) (run : Run) (ticket : ℕ) → IsRunOf lines run → run.ending ≡ ending.Full ticket → HoldsFirst lines run.journal
-run_holds_first lines run ticket r e =
+run_holds_first : (lines : List Line) (workers : ℕ) (run : Run) (ticket : ℕ) → IsRunOf lines workers run → run.ending ≡ ending.Full ticket
+    → HoldsFirst lines run.journal
+run_holds_first lines workers run ticket r e =
     let cut = r.cut ticket e in
     record {
       legal = r.legal;
       each = r.parts;
-      others = none_ends lines run r;
+      others = none_left lines workers run r;
       just = r.just;
       seat = cut.seat;
       cut = cut.part;
@@ -58,15 +67,18 @@ run_holds_first lines run ticket r e =
       full = cut.full;
     }
 
+has_workers : (lines : List Line) (workers : ℕ) (run : Run) → IsRunOf lines workers run → HasWorkers workers run.journal
+has_workers lines workers run r = record { work = r.work; absent = r.absent }
+
 pub none_is_legal : (journal : List Entry) → journal ≡ [] → IsLegal journal
 none_is_legal journal j = subst IsLegal (sym j) nothing_is_legal
 
-module _ (told : Option (List ℕ)) where
-  pub run_is_legal : (journal : List Entry) (run : Run) → YieldsRun told run → journal ≡ run.journal → IsLegal journal
+module _ (workers : ℕ) (told : Option (List ℕ)) where
+  pub run_is_legal : (journal : List Entry) (run : Run) → YieldsRun workers told run → journal ≡ run.journal → IsLegal journal
   run_is_legal journal run y j = subst IsLegal (sym j) y.2.2.legal
 
-  pub run_of_sessions : (run : Run) → YieldsRun told run → All IsOfSession run.journal
-  run_of_sessions run y = λ k d low ends. entries_numbered y.2.0 run y.2.2 k d low
+  pub run_of_sessions : (run : Run) → YieldsRun workers told run → All IsOfSession run.journal
+  run_of_sessions run y = λ k d low ends. entries_numbered y.2.0 workers run y.2.2 k d low
 
   module _ (reads reads' : ℕ) where
     fault_hinders : (bytes : List ℕ) (e : ScriptFault) → Gives told bytes → IsFaulty bytes e → Hinders told reads reads' (answer_to e)
@@ -75,18 +87,18 @@ module _ (told : Option (List ℕ)) where
     fault_hinders bytes (fault.Block n) g f = (bytes, fault.Block n, g, f, refl)
     fault_hinders bytes fault.Memory g f = tt
 
-    pub source_yields : (bytes : List ℕ) (o : Outcome) → Gives told bytes → YieldsOf bytes o → Yields told reads reads' o
+    pub source_yields : (bytes : List ℕ) (o : Outcome) → Gives told bytes → YieldsOf workers bytes o → Yields workers told reads reads' o
     source_yields bytes (Hindered a) g (inl q) = subst (Hinders told reads reads') (sym q) tt
     source_yields bytes (Hindered a) g (inr y) = subst (Hinders told reads reads') (sym y.2) (fault_hinders bytes y.0 g y.1)
     source_yields bytes (Served run) g y = (bytes, g, y)
 
-    run_comes : (bytes : List ℕ) (lines : List Line) (run : Run) (x : Ending) → Gives told bytes → IsScript bytes lines → IsRunOf lines run
-        → run.ending ≡ x → Comes told reads reads' run.journal (ending_status run.ending) (run_text run)
+    run_comes : (bytes : List ℕ) (lines : List Line) (run : Run) (x : Ending) → Gives told bytes → IsScript bytes lines → IsRunOf lines workers run
+        → run.ending ≡ x → Comes workers told reads reads' run.journal (ending_status run.ending) (run_text run)
     run_comes bytes lines run ending.Done g s r e =
-        done bytes lines g s (run_holds lines run r e) (ap ending_status e)
+        done bytes lines g s (run_holds lines workers run r e) (has_workers lines workers run r) (ap ending_status e)
         (ap (λ (x : Ending). journal_text run.journal ++ last_line x) e ∙ append-nil (journal_text run.journal))
     run_comes bytes lines run (ending.Full ticket) g s r e =
-        full bytes lines g s (run_holds_first lines run ticket r e) (ap ending_status e)
+        full bytes lines g s (run_holds_first lines workers run ticket r e) (has_workers lines workers run r) (ap ending_status e)
         (ap (λ (x : Ending). journal_text run.journal ++ last_line x) e)
 
     -- ---- statuses that no answer has where no command was done
@@ -172,73 +184,74 @@ module _ (bytes : List ℕ) (e : ScriptFault) (faulty : IsReading 1 bytes (Err e
 pub other_number : {a b n : ℕ} → a ≡ n → a ≡ b → n ≡ b
 other_number p q = sym p ∙ q
 
-module _ (told : Option (List ℕ)) (reads reads' : ℕ) (old new : Option (List ℕ)) (f f' : ℕ) (journal : List Entry) (status : ℕ) where
+module _ (workers : ℕ) (told : Option (List ℕ)) (reads reads' : ℕ) (old new : Option (List ℕ)) (f f' : ℕ) (journal : List Entry) (status : ℕ) where
   pub hindered_ends : (a : Answer) → Hinders told reads reads' a → journal ≡ []
       → (Writes old new f f' (text_of a) (status_of a) status) ⊎ (Writes old new f f' (text_of Memory) 70 status)
-      → RunEnds told reads reads' old new f f' journal status
+      → RunEnds workers told reads reads' old new f f' journal status
   hindered_ends a h j (inl w) = record { wanted = status_of a; text = text_of a; comes = hindered a h j refl refl; written = w }
   hindered_ends a h j (inr w) = record { wanted = 70; text = text_of Memory; comes = starved refl refl; written = w }
 
-  pub run_ends : (run : Run) → YieldsRun told run → journal ≡ run.journal → PrintsRun run old new f f' status
-      → RunEnds told reads reads' old new f f' journal status
-  run_ends run y j p = subst (λ (es : List Entry). RunEnds told reads reads' old new f f' es status) (sym j) (by p)
+  pub run_ends : (run : Run) → YieldsRun workers told run → journal ≡ run.journal → PrintsRun run old new f f' status
+      → RunEnds workers told reads reads' old new f f' journal status
+  run_ends run y j p = subst (λ (es : List Entry). RunEnds workers told reads reads' old new f f' es status) (sym j) (by p)
     where
-      by : PrintsRun run old new f f' status → RunEnds told reads reads' old new f f' run.journal status
+      by : PrintsRun run old new f f' status → RunEnds workers told reads reads' old new f f' run.journal status
       by (inl w) = record {
         wanted = ending_status run.ending;
         text = run_text run;
-        comes = run_comes told reads reads' y.0 y.2.0 run run.ending y.1 y.2.1 y.2.2 refl;
+        comes = run_comes workers told reads reads' y.0 y.2.0 run run.ending y.1 y.2.1 y.2.2 refl;
         written = w;
       }
       by (inr w) = record { wanted = 70; text = codes "memory\n"; comes = starved refl refl; written = w }
 
   -- ---- and what its status tells then
-  headline_from : (n : ℕ) (t : List ℕ) → Comes told reads reads' journal n t → n ≡ 0 → new ≡ append_known old t → Headline told old new journal
-  headline_from n t (hindered a h j w x) e k = absurd (not_done told reads reads' a h (other_number w e))
+  headline_from : (n : ℕ) (t : List ℕ) → Comes workers told reads reads' journal n t → n ≡ 0 → new ≡ append_known old t → Headline workers told old new journal
+  headline_from n t (hindered a h j w x) e k = absurd (not_done workers told reads reads' a h (other_number w e))
   headline_from n t (starved w x) e k = absurd (omega (arith, w, e))
-  headline_from n t (done bytes lines g s h w x) e k =
-      record { bytes = bytes; lines = lines; given = g; script = s; holds = h; written = k ∙ ap (append_known old) x }
-  headline_from n t (full bytes lines g s h w x) e k = absurd (omega (arith, w, e))
+  headline_from n t (done bytes lines g s h b w x) e k =
+      record { bytes = bytes; lines = lines; given = g; script = s; holds = h; workers_are = b; written = k ∙ ap (append_known old) x }
+  headline_from n t (full bytes lines g s h b w x) e k = absurd (omega (arith, w, e))
 
-  headline_by : (n : ℕ) (t : List ℕ) → Comes told reads reads' journal n t → Writes old new f f' t n status → status ≡ 0 → Headline told old new journal
+  headline_by : (n : ℕ) (t : List ℕ) → Comes workers told reads reads' journal n t → Writes old new f f' t n status → status ≡ 0 → Headline workers told old new journal
   headline_by n t c (whole k e) z = headline_from n t c (other_number e z) k
   headline_by n t c (failed p q e) z = absurd (omega (arith, e, z))
 
-  pub headline_of : RunEnds told reads reads' old new f f' journal status → status ≡ 0 → Headline told old new journal
+  pub headline_of : RunEnds workers told reads reads' old new f f' journal status → status ≡ 0 → Headline workers told old new journal
   headline_of r z = headline_by r.wanted r.text r.comes r.written z
 
-  cut_from : (n : ℕ) (t : List ℕ) → Comes told reads reads' journal n t → n ≡ 69 → new ≡ append_known old t → CutShort told old new journal
-  cut_from n t (hindered a h j w x) e k = absurd (not_full told reads reads' a h (other_number w e))
+  cut_from : (n : ℕ) (t : List ℕ) → Comes workers told reads reads' journal n t → n ≡ 69 → new ≡ append_known old t → CutShort workers told old new journal
+  cut_from n t (hindered a h j w x) e k = absurd (not_full workers told reads reads' a h (other_number w e))
   cut_from n t (starved w x) e k = absurd (omega (arith, w, e))
-  cut_from n t (done bytes lines g s h w x) e k = absurd (omega (arith, w, e))
-  cut_from n t (full bytes lines g s h w x) e k = record {
+  cut_from n t (done bytes lines g s h b w x) e k = absurd (omega (arith, w, e))
+  cut_from n t (full bytes lines g s h b w x) e k = record {
     bytes = bytes;
     lines = lines;
     given = g;
     script = s;
     holds = h;
+    workers_are = b;
     written = k ∙ ap (append_known old) x;
   }
 
-  cut_by : (n : ℕ) (t : List ℕ) → Comes told reads reads' journal n t → Writes old new f f' t n status → status ≡ 69 → CutShort told old new journal
+  cut_by : (n : ℕ) (t : List ℕ) → Comes workers told reads reads' journal n t → Writes old new f f' t n status → status ≡ 69 → CutShort workers told old new journal
   cut_by n t c (whole k e) z = cut_from n t c (other_number e z) k
   cut_by n t c (failed p q e) z = absurd (omega (arith, e, z))
 
-  pub cut_short_of : RunEnds told reads reads' old new f f' journal status → status ≡ 69 → CutShort told old new journal
+  pub cut_short_of : RunEnds workers told reads reads' old new f f' journal status → status ≡ 69 → CutShort workers told old new journal
   cut_short_of r z = cut_by r.wanted r.text r.comes r.written z
 
-module _ (reads reads' : ℕ) (old new : Option (List ℕ)) (f f' : ℕ) (journal : List Entry) (status : ℕ) where
+module _ (workers : ℕ) (reads reads' : ℕ) (old new : Option (List ℕ)) (f f' : ℕ) (journal : List Entry) (status : ℕ) where
   module _ (bytes : List ℕ) (e : ScriptFault) (short : length bytes ≤ 16777216) (faulty : IsReading 1 bytes (Err e)) where
-    refused_from : (n : ℕ) (t : List ℕ) → Comes (Some bytes) reads reads' journal n t → status ≡ n → new ≡ append_known old t → IsRefusedAs e old new status
+    refused_from : (n : ℕ) (t : List ℕ) → Comes workers (Some bytes) reads reads' journal n t → status ≡ n → new ≡ append_known old t → IsRefusedAs e old new status
     refused_from n t (hindered a h j w x) k y = answer_refused bytes e faulty reads reads' old new status a short h (k ∙ w) (y ∙ ap (append_known old) x)
     refused_from n t (starved w x) k y = wanting (k ∙ w)
-    refused_from n t (done given lines g p h w x) k y = absurd (no_script bytes e faulty given lines g p)
-    refused_from n t (full given lines g p h w x) k y = absurd (no_script bytes e faulty given lines g p)
+    refused_from n t (done given lines g p h b w x) k y = absurd (no_script bytes e faulty given lines g p)
+    refused_from n t (full given lines g p h b w x) k y = absurd (no_script bytes e faulty given lines g p)
 
-    refused_by : (n : ℕ) (t : List ℕ) → Comes (Some bytes) reads reads' journal n t → Writes old new f f' t n status → IsRefusedAs e old new status
+    refused_by : (n : ℕ) (t : List ℕ) → Comes workers (Some bytes) reads reads' journal n t → Writes old new f f' t n status → IsRefusedAs e old new status
     refused_by n t c (whole y k) = refused_from n t c k y
     refused_by n t c (failed p q k) = unwritten k
 
-  pub one_refusal_of : (told : Option (List ℕ)) → RunEnds told reads reads' old new f f' journal status → IsOneRefusal told old new status
+  pub one_refusal_of : (told : Option (List ℕ)) → RunEnds workers told reads reads' old new f f' journal status → IsOneRefusal told old new status
   one_refusal_of None r = tt
   one_refusal_of (Some bytes) r = λ e s d. refused_by bytes e s d r.wanted r.text r.comes r.written

@@ -1,4 +1,4 @@
--- What an input of `run 0` comes to, before anything is written, and what is written of a run.
+-- What an input of `run W` comes to, before anything is written, and what is written of a run.
 use Rattle.std.specs.Prelude.{ℕ, ◌≡◌, ◌⊎◌, Option, List, [], ◌++◌, codes}
 use Rattle.ps_script.specs.declared.script.Line.{Line}
 use Rattle.ps_script.specs.declared.fault.ScriptFault.{ScriptFault}
@@ -15,18 +15,18 @@ use Rattle.pathsum.specs.Scripts.{Gives, IsScript, IsFaulty, answer_to}
 use Rattle.pathsum.specs.Runs.{Hinders}
 
 -- bytes that were read come to this: want of memory, a fault, or the run of the commands that they are
-abbrev pub YieldsOf : List ℕ → Outcome → Type 0
-YieldsOf bytes (Hindered answer) = (answer ≡ Memory) ⊎ ((e : ScriptFault) × IsFaulty bytes e × (answer ≡ answer_to e))
-YieldsOf bytes (Served run) = (lines : List Line) × IsScript bytes lines × IsRunOf lines run
+abbrev pub YieldsOf : ℕ → List ℕ → Outcome → Type 0
+YieldsOf workers bytes (Hindered answer) = (answer ≡ Memory) ⊎ ((e : ScriptFault) × IsFaulty bytes e × (answer ≡ answer_to e))
+YieldsOf workers bytes (Served run) = (lines : List Line) × IsScript bytes lines × IsRunOf lines workers run
 
 -- what a source gives is the script of this run
-abbrev pub YieldsRun : Option (List ℕ) → Run → Type 0
-YieldsRun told run = (bytes : List ℕ) × Gives told bytes × YieldsOf bytes (Served run)
+abbrev pub YieldsRun : ℕ → Option (List ℕ) → Run → Type 0
+YieldsRun workers told run = (bytes : List ℕ) × Gives told bytes × YieldsOf workers bytes (Served run)
 
 -- what a source gives comes to this
-abbrev pub Yields : Option (List ℕ) → ℕ → ℕ → Outcome → Type 0
-Yields told reads reads' (Hindered answer) = Hinders told reads reads' answer
-Yields told reads reads' (Served run) = YieldsRun told run
+abbrev pub Yields : ℕ → Option (List ℕ) → ℕ → ℕ → Outcome → Type 0
+Yields workers told reads reads' (Hindered answer) = Hinders told reads reads' answer
+Yields workers told reads reads' (Served run) = YieldsRun workers told run
 
 -- ---- what is written of a run
 abbrev pub ending_status : Ending → ℕ

@@ -1,5 +1,5 @@
 -- Scripts: the words that ask for one to be run, what bytes are read as, and how a fault is told.
-use Rattle.std.specs.Prelude.{ℕ, ◌≡◌, ◌≤◌, Option, IfSome, List, [], ◌∷◌, codes, length, map, Ok, Err}
+use Rattle.std.specs.Prelude.{ℕ, ◌≡◌, ◌≤◌, Option, IfSome, List, [], ◌∷◌, codes, decimal, length, map, Ok, Err}
 use Rattle.ps_script.specs.declared.script.Line.{Line}
 use Rattle.ps_script.specs.declared.fault.ScriptFault.{ScriptFault}
 use Rattle.ps_script.specs.declared.fault.ScriptFault.TheVariants as fault
@@ -8,9 +8,14 @@ use Rattle.pathsum.specs.declared.answer.Answer.{Answer}
 use Rattle.pathsum.specs.declared.answer.Answer.TheVariants.{Refused, Memory}
 use Rattle.pathsum.specs.declared.refusals.Refusal.TheVariants.{Form, Session, Block}
 
--- the words that ask for a script to be run on one thread
-abbrev pub IsRun : List (List ℕ) → Type 0
-IsRun words = words ≡ codes "run" ∷ codes "0" ∷ []
+-- the words that ask for a script to be run beside so many workers
+pub record IsRun (words : List (List ℕ)) (workers : ℕ) : Type 0 where
+  pub words_are : words ≡ codes "run" ∷ decimal workers ∷ []
+  pub few : workers ≤ 16
+
+-- the words ask for a script to be run
+abbrev pub AskToRun : List (List ℕ) → Type 0
+AskToRun words = (workers : ℕ) × IsRun words workers
 
 -- the source gave these bytes, as many as are read at most; where it tells what it has left, they are all of that
 pub record Gives (told : Option (List ℕ)) (bytes : List ℕ) : Type 0 where

@@ -3,7 +3,6 @@
 ghost use Rattle.std.specs.Prelude.{◌≡◌, ◌∷◌, [], ◌↔◌, IsTrue, MatchOption, map, string_bytes};
 ghost use Rattle.pathsum.specs.declared.commands.Command.{Command as Wanted};
 ghost use Rattle.pathsum.specs.Commands.{IsCommand};
-ghost use Rattle.pathsum.specs.Scripts.{IsRun};
 
 /// What the words ask of two circuits.
 #[derive(Clone, Copy, Debug, PartialEq, Eq)]
@@ -18,13 +17,6 @@ pub enum Command {
     Prove,
     /// Whether a derivation shows that two circuits are one linear map.
     Replay,
-}
-
-/// Whether the words ask for a script to be run on one thread.
-pub fn is_run(words: &[String]) -> bool
-    ensures { IsTrue result ↔ IsRun (map string_bytes words.now) }
-{
-    are_two(words, "run", "0")
 }
 
 /// The command that the words are; none where they have another form.

@@ -44,8 +44,8 @@ fn is_within(qubits: u32, items: u32) -> bool
     2 <= qubits && qubits <= 16 && 1 <= items && items <= 32_768
 }
 
-// The number below 2^32 that the word is, without a leading zero.
-fn number(word: &str) -> Option<u32>
+/// The number below 2^32 that the word is, without a leading zero.
+pub fn number(word: &str) -> Option<u32>
     ensures { MatchOption result ((n : ℕ) → ¬ (IsNumber word.now n)) (λ n. IsNumber word.now n) }
 {
     let Ok(value) = word.parse::<u32>() else {

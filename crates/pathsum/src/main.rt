@@ -4,7 +4,7 @@
 ghost use Rattle.std.specs.Prelude.{◌≡◌, ℕ, [], map, string_bytes};
 ghost use Rattle.ps_journal.specs.History.{IsLegal};
 ghost use Rattle.pathsum.specs.Ended.{Answers, Ends, IsOneAnswer};
-ghost use Rattle.pathsum.specs.Scripts.{IsRun};
+ghost use Rattle.pathsum.specs.Scripts.{AskToRun, IsRun};
 ghost use Rattle.pathsum.specs.Generated.{AskToGenerate, IsGeneration, GenerationEnds, Generates};
 ghost use Rattle.pathsum.specs.Runs.{RunEnds, Headline, CutShort, IsOneRefusal};
 
@@ -24,10 +24,13 @@ mod splits;
 #[cfg(test)]
 mod tests;
 mod verdict;
+#[cfg(test)]
+mod worker_tests;
+mod workers;
 
 use answer::Answer;
 pub use calls::{prove_run, replay_run, same_local_run, same_phase_run, same_run};
-use commands::{Command, command_of, is_run};
+use commands::{Command, command_of};
 pub use ended::Ended;
 pub use generating::gen_run;
 use generation::generation_of;
@@ -41,6 +44,7 @@ use std::process::ExitCode;
 use std::rt::Env;
 use std::sync::Wait;
 use std::thread::Threads;
+use workers::workers_of;
 
 /// Does what the words say, with the input from the source and what is printed to the sink.
 pub fn run<S: Source, W: Sink, G: Gate + Sync, R: Threads + Wait + Sync>(
@@ -51,26 +55,26 @@ pub fn run<S: Source, W: Sink, G: Gate + Sync, R: Threads + Wait + Sync>(
     sink: &mut W,
     gate: &G,
 ) -> Ended
-    // Of all words but `run 0` and `gen S Q N`: what an answer prints that claims this is written, with its status.
-    ensures ends { ¬ (IsRun (map string_bytes words.now)) → ¬ (AskToGenerate (map string_bytes words.now))
+    // Of all words but `run W` and `gen S Q N`: what an answer prints that claims this is written, with its status.
+    ensures ends { ¬ (AskToRun (map string_bytes words.now)) → ¬ (AskToGenerate (map string_bytes words.now))
         → Ends (Answers (map string_bytes words.now) (S.remaining source.old) (S.faults source.old) (S.faults source.new))
         (W.held sink.old) (W.held sink.new) (W.faults sink.old) (W.faults sink.new) result.status }
     ensures one_answer { IsOneAnswer (map string_bytes words.now) (S.remaining source.old) }
-    ensures unserved { ¬ (IsRun (map string_bytes words.now)) → ¬ (AskToGenerate (map string_bytes words.now))
+    ensures unserved { ¬ (AskToRun (map string_bytes words.now)) → ¬ (AskToGenerate (map string_bytes words.now))
         → result.journal ≡ [] }
 
-    // Of `run 0`: however it ends, what is written, of which with status 67 a prefix, and what the journal is.
-    ensures run_ends { IsRun (map string_bytes words.now)
-        → RunEnds (S.remaining source.old) (S.faults source.old) (S.faults source.new)
+    // Of `run W`: however it ends, what is written, of which with status 67 a prefix, and what the journal is.
+    ensures run_ends { (workers : ℕ) → IsRun (map string_bytes words.now) workers
+        → RunEnds workers (S.remaining source.old) (S.faults source.old) (S.faults source.new)
         (W.held sink.old) (W.held sink.new) (W.faults sink.old) (W.faults sink.new) result.journal result.status }
     // With status 0 all commands of the script are answered, and their replies are written.
-    ensures headline { IsRun (map string_bytes words.now) → result.status ≡ 0
-        → Headline (S.remaining source.old) (W.held sink.old) (W.held sink.new) result.journal }
+    ensures headline { (workers : ℕ) → IsRun (map string_bytes words.now) workers → result.status ≡ 0
+        → Headline workers (S.remaining source.old) (W.held sink.old) (W.held sink.new) result.journal }
     // With status 69 of each session the first ones are, one at least is left, and the line `full` is written behind the replies.
-    ensures cut_short { IsRun (map string_bytes words.now) → result.status ≡ 69
-        → CutShort (S.remaining source.old) (W.held sink.old) (W.held sink.new) result.journal }
+    ensures cut_short { (workers : ℕ) → IsRun (map string_bytes words.now) workers → result.status ≡ 69
+        → CutShort workers (S.remaining source.old) (W.held sink.old) (W.held sink.new) result.journal }
     // A script with a fault is refused, with that fault.
-    ensures one_refusal { IsRun (map string_bytes words.now)
+    ensures one_refusal { AskToRun (map string_bytes words.now)
         → IsOneRefusal (S.remaining source.old) (W.held sink.old) (W.held sink.new) result.status }
 
     // Of `gen S Q N`: however it ends, what is written, of which with status 67 a prefix, and what the journal is.
@@ -84,8 +88,8 @@ pub fn run<S: Source, W: Sink, G: Gate + Sync, R: Threads + Wait + Sync>(
     // Whatever the words and the status, the journal is a legal history.
     ensures legal { IsLegal result.journal }
 {
-    if is_run(words) {
-        return script_run(rt, alloc, source, sink, gate);
+    if let Some(workers) = workers_of(words) {
+        return script_run(rt, alloc, source, sink, gate, workers);
     }
     match generation_of(words) {
         Some(wanted) => gen_run(alloc, wanted.seed, wanted.qubits, wanted.items, sink),

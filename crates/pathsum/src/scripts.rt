@@ -1,4 +1,4 @@
-//! A script, whose sessions are run on threads of their own.
+//! A script, whose sessions are run on threads of their own, beside workers.
 
 ghost use Rattle.std.specs.Prelude.{◌≡◌, ◌≤◌, length, IfOk, All};
 ghost use Rattle.ps_journal.specs.History.{IsLegal};
@@ -16,7 +16,7 @@ use ps_io::{Gate, ReadEnd, Sink, Source, read_all};
 use ps_reply::text;
 use ps_script::{ScriptFault, read};
 use ps_sessions::Ending;
-use ps_threads::{Run, run_sessions};
+use ps_threads::{Run, run_beside};
 use std::alloc::{AllocError, Global};
 use std::sync::Wait;
 use std::thread::Threads;
@@ -30,19 +30,22 @@ pub enum Outcome {
     Served(Run),
 }
 
-/// Reads a script from the source, does its commands, those of each session on a thread of its own, and writes the replies.
+/// Reads a script from the source, does its commands, those of each session on a thread of its own, beside so many workers,
+/// and writes the replies. Condition: at most 16 workers.
 pub fn script_run<S: Source, W: Sink, G: Gate + Sync, R: Threads + Wait + Sync>(
     rt: &R,
     alloc: Global,
     source: &mut S,
     sink: &mut W,
     gate: &G,
+    workers: u32,
 ) -> Ended
-    ensures ends { RunEnds (S.remaining source.old) (S.faults source.old) (S.faults source.new)
+    requires few { workers ≤ 16 }
+    ensures ends { RunEnds workers (S.remaining source.old) (S.faults source.old) (S.faults source.new)
         (W.held sink.old) (W.held sink.new) (W.faults sink.old) (W.faults sink.new) result.journal result.status }
     ensures legal { IsLegal result.journal }
 {
-    match read_and_serve(rt, alloc, source, gate) {
+    match read_and_serve(rt, alloc, source, gate, workers) {
         Outcome::Hindered(answer) => print(alloc, sink, &answer),
         Outcome::Served(run) => print_run(alloc, sink, run),
     }
@@ -54,11 +57,13 @@ fn read_and_serve<S: Source, G: Gate + Sync, R: Threads + Wait + Sync>(
     alloc: Global,
     source: &mut S,
     gate: &G,
+    workers: u32,
 ) -> Outcome
-    ensures { Yields (S.remaining source.old) (S.faults source.old) (S.faults source.new) result }
+    requires few { workers ≤ 16 }
+    ensures { Yields workers (S.remaining source.old) (S.faults source.old) (S.faults source.new) result }
 {
     match read_all(alloc, source, LONGEST) {
-        Ok(bytes) => serve(rt, alloc, &bytes, gate),
+        Ok(bytes) => serve(rt, alloc, &bytes, gate, workers),
         Err(ReadEnd::Read) => Outcome::Hindered(Answer::Read),
         Err(ReadEnd::TooLong) => Outcome::Hindered(Answer::TooLong),
         Err(ReadEnd::Memory) => Outcome::Hindered(Answer::Memory),
@@ -71,12 +76,14 @@ fn serve<G: Gate + Sync, R: Threads + Wait + Sync>(
     alloc: Global,
     bytes: &[u8],
     gate: &G,
+    workers: u32,
 ) -> Outcome
-    requires { length bytes.now ≤ 16777216 }
-    ensures { YieldsOf bytes.now result }
+    requires short { length bytes.now ≤ 16777216 }
+    requires few { workers ≤ 16 }
+    ensures { YieldsOf workers bytes.now result }
 {
     match read(alloc, bytes) {
-        Ok(script) => match run_sessions(rt, alloc, script, gate) {
+        Ok(script) => match run_beside(rt, alloc, script, workers, gate) {
             Ok(run) => Outcome::Served(run),
             Err(AllocError) => Outcome::Hindered(Answer::Memory),
         },
