@@ -80,10 +80,10 @@ restricted_count p S R x r o l m j =
     closed_count R S.m (λ y. phase_value S.phase (bit (x ++ y))) x r.m_is r.no_outs (λ y. r.phase_is (bit (x ++ y)) ∙ ap (λ a. phase_value S.phase a % 4294967296) (fun_ext (set_same p x y l m))) j
     ∙ sym (closed_count S S.m (λ y. phase_value S.phase (bit (x ++ y))) x refl o (λ y. refl) j)
 
-restricted_one : (p : Pattern) (S R : PathSum) (x : Truths) → IsRestricted p S R → S.outs ≡ [] → length x ≡ p.len → Matches p x → IsOne (path_values R) x → IsOne (path_values S) x
+pub restricted_one : (p : Pattern) (S R : PathSum) (x : Truths) → IsRestricted p S R → S.outs ≡ [] → length x ≡ p.len → Matches p x → IsOne (path_values R) x → IsOne (path_values S) x
 restricted_one p S R x r o l m = count_one (path_values R) (path_values S) x x r.k_is (restricted_count p S R x r o l m)
 
-restricted_back : (p : Pattern) (S R : PathSum) (x : Truths) → IsRestricted p S R → S.outs ≡ [] → length x ≡ p.len → Matches p x → IsOne (path_values S) x → IsOne (path_values R) x
+pub restricted_back : (p : Pattern) (S R : PathSum) (x : Truths) → IsRestricted p S R → S.outs ≡ [] → length x ≡ p.len → Matches p x → IsOne (path_values S) x → IsOne (path_values R) x
 restricted_back p S R x r o l m = count_one (path_values S) (path_values R) x x (sym r.k_is) (λ j. sym (restricted_count p S R x r o l m j))
 
 past : (xs zs : Truths) (y : Truths) (v : ℕ) → length xs ≡ length zs → length xs ≤ v → bit (xs ++ y) v ≡ bit (zs ++ y) v

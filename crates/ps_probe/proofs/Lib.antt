@@ -4,5 +4,7 @@ mod Scales
 mod Marks
 mod Restricted
 mod Searches
-mod Givings
+pub mod Givings
+mod Halves
+pub mod Once
 mod Shown

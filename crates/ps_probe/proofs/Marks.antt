@@ -105,8 +105,8 @@ pub marked_end : (w : List ℕ) (k : ℕ) (p : Pattern) → 1 ≤ length w → l
 marked_end w k p some few e l m = record {
   word = record { some = some; few = few; marks = λ i h. m.marks i (omega (arith, h, e)) };
   len_is = l;
-  fixed_is = λ i h. bits_end w k p.fixed (λ j. not (nat_eq (get_or w j 45) 45)) (λ j g. ap (λ x. not (nat_eq x 45)) (get_or_past w j 45 (omega (arith, g, e)))) m.fixed_is i;
-  ones_is = λ i h. bits_end w k p.ones (λ j. nat_eq (get_or w j 45) 49) (λ j g. ap (λ x. nat_eq x 49) (get_or_past w j 45 (omega (arith, g, e)))) m.ones_is i;
+  fixed_is = λ i. bits_end w k p.fixed (λ j. not (nat_eq (get_or w j 45) 45)) (λ j g. ap (λ x. not (nat_eq x 45)) (get_or_past w j 45 (omega (arith, g, e)))) m.fixed_is i;
+  ones_is = λ i. bits_end w k p.ones (λ j. nat_eq (get_or w j 45) 49) (λ j g. ap (λ x. nat_eq x 49) (get_or_past w j 45 (omega (arith, g, e)))) m.ones_is i;
 }
 
 pub no_mark : (w : List ℕ) (k c : ℕ) → k < length w → c ≡ get_or w k 45 → (c ≡ 49 → ⊥) → (c ≡ 48 → ⊥) → (c ≡ 45 → ⊥) → IsWord w → ⊥

@@ -21,8 +21,8 @@ pub record IsWord (w : List ℕ) : Type 0 where
 pub record Spells (w : List ℕ) (p : Pattern) : Type 0 where
   pub word : IsWord w
   pub len_is : p.len ≡ length w
-  pub fixed_is : (i : ℕ) → i < 64 → is_set p.fixed i ≡ not (nat_eq (get_or w i 45) 45)
-  pub ones_is : (i : ℕ) → i < 64 → is_set p.ones i ≡ nat_eq (get_or w i 45) 49
+  pub fixed_is : (i : ℕ) → is_set p.fixed i ≡ not (nat_eq (get_or w i 45) 45)
+  pub ones_is : (i : ℕ) → is_set p.ones i ≡ nat_eq (get_or w i 45) 49
 
 -- ---- its inputs
 -- input i is fixed
@@ -32,6 +32,12 @@ is_fixed p i = nat_lt i p.len && is_set p.fixed i
 -- and to 1
 abbrev pub is_one : Pattern → ℕ → Bool
 is_one p i = is_set p.ones i
+
+-- of n inputs i alone is fixed, to this
+pub record IsFixing (n i : ℕ) (b : Bool) (p : Pattern) : Type 0 where
+  pub len_is : p.len ≡ n
+  pub fixed_is : (v : ℕ) → is_set p.fixed v ≡ nat_eq v i
+  pub one_is : is_one p i ≡ b
 
 -- how many of the first n inputs are free
 unfoldable pub free_count : Pattern → ℕ → ℕ

@@ -1,5 +1,5 @@
 -- The first input at which a closed sum is not 1.
-use Rattle.std.specs.Prelude.{ℕ, ◌≡◌, ◌≤◌, ◌<◌, true, false, Option, Some, None, List, length}
+use Rattle.std.specs.Prelude.{ℕ, ◌≡◌, ◌≤◌, ◌<◌, ◌↔◌, Bool, true, false, Option, Some, None, List, [], length}
 use Rattle.ps_ring.specs.Truths.{Truths, bit}
 use Rattle.ps_mono.specs.Sets.{stands, IsVarSet}
 use Rattle.ps_prim.specs.Overlaps.{IsOne}
@@ -32,6 +32,13 @@ pub record IsFirstOther (p : Pattern) (S : PathSum) (Such : Truths → Type 0) (
   pub first : AllOne p S (λ x. Such x × Before x (point S.n at))
   pub below : (v : ℕ) → S.n ≤ v → stands v at ≡ false
   pub form : IsVarSet at
+
+-- at each input of which input i is so, the closed sum R is 1 where S is
+pub record IsHalf (S : PathSum) (i : ℕ) (b : Bool) (R : PathSum) : Type 0 where
+  pub n_is : R.n ≡ S.n
+  pub m_is : R.m ≡ S.m
+  pub no_outs : R.outs ≡ []
+  pub one : (x : Truths) → length x ≡ S.n → bit x i ≡ b → IsOne (path_values R) x ↔ IsOne (path_values S) x
 
 -- no input from the sum's number of them on is in the set, and before input `from` the fixed ones are as the pattern says
 pub record IsBegun (p : Pattern) (S : PathSum) (at : List ℕ) (from : ℕ) : Type 0 where

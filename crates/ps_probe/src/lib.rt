@@ -7,6 +7,7 @@ mod ending;
 mod evidences;
 pub mod finding;
 pub mod giving;
+mod halving;
 pub mod pattern;
 mod phases;
 mod reducing;

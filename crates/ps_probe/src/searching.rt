@@ -3,6 +3,7 @@
 ghost use Rattle.std.specs.Prelude.{◌≡◌, ◌≤◌, [], IfOk};
 ghost use Rattle.ps_probe.specs.Searching.{IsBegun, Searched};
 
+use super::halving::half;
 use super::pattern::Pattern;
 use super::tallying::tally;
 use ps_mono::{Bits, Mono};
@@ -11,6 +12,8 @@ use std::alloc::{AllocError, Global};
 
 /// The first of the inputs that match the pattern and are as `at` before input `from` at which the closed sum is
 /// not 1; none where it is 1 at each. They ascend, input 0 being the highest digit. `AllocError` is want of memory.
+///
+/// Each input that is free halves the inputs, and leaves fewer terms to look at in each half.
 pub fn first_other(
     alloc: Global,
     sum: &PathSum,
@@ -37,11 +40,13 @@ pub fn first_other(
         return first_other(alloc, sum, pattern, next, from + 1);
     }
     next.set(from as u16, false);
-    match first_other(alloc, sum, pattern, next, from + 1)? {
+    let low = half(alloc, sum, from, false)?;
+    match first_other(alloc, &low, pattern, next, from + 1)? {
         Some(found) => Ok(Some(found)),
         None => {
             next.set(from as u16, true);
-            first_other(alloc, sum, pattern, next, from + 1)
+            let high = half(alloc, sum, from, true)?;
+            first_other(alloc, &high, pattern, next, from + 1)
         }
     }
 }
